@@ -1,0 +1,4 @@
+pub mod decimal;
+pub mod number;
+pub mod printable;
+pub mod symbol;
