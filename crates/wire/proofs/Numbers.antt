@@ -27,11 +27,9 @@ places-all : (xs : List ℕ) → xs ≡ places (length xs) 0 xs
 places-all [] = refl
 places-all (x ∷ xs) = ap (λ ys. x ∷ ys) (places-all xs ∙ sym (places-tail (length xs) 0 x xs))
 
--- a number whose bytes were read one by one is the number in the part
-pub number-read : (width : ℕ) (part : List ℕ) (n : ℕ) → length part ≡ width → n ≡ valueOf (places width 0 part) → Some n ≡ numberIn width part
-number-read width part n l e =
-    ap (λ v. Some v) (e ∙ ap (λ k. valueOf (places k 0 part)) (sym l) ∙ ap valueOf (sym (places-all part)))
-    ∙ ap (λ b. cond b (Some (valueOf part)) None) (sym (eq-eqb (length part) width l))
+-- a number whose bytes were read one by one is the number that the part writes
+pub value-read : (width : ℕ) (part : List ℕ) (n : ℕ) → length part ≡ width → n ≡ valueOf (places width 0 part) → n ≡ valueOf part
+value-read width part n l e = e ∙ ap (λ k. valueOf (places k 0 part)) (sym l) ∙ ap valueOf (sym (places-all part))
 
 value-push : (n : ℕ) (bs : List ℕ) (b : ℕ) → valueAfter n (bs ++ (b ∷ [])) ≡ valueAfter n bs * 256 + b
 value-push n [] b = refl

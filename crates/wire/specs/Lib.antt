@@ -1,5 +1,7 @@
 pub mod Decimal
+pub mod Header
 pub mod Number
 pub mod Part
 pub mod Printable
 pub mod Symbol
+pub mod TradeReport

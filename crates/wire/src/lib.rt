@@ -1,4 +1,6 @@
 pub mod decimal;
+pub mod header;
 pub mod number;
 pub mod printable;
 pub mod symbol;
+pub mod trade_report;
