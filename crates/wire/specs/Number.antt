@@ -8,15 +8,15 @@ use Rattle.std.specs.declared.option.Option.{Option}
 use Rattle.std.specs.declared.option.Option.the-variants.{Some, None}
 
 -- the number that some bytes write, after the number that those before them write
-abbrev pub valueAfter : ℕ → List ℕ → ℕ
+unfoldable pub valueAfter : ℕ → List ℕ → ℕ
 valueAfter n [] = n
 valueAfter n (b ∷ bs) = valueAfter (n * 256 + b) bs
 
-abbrev pub valueOf : List ℕ → ℕ
+unfoldable pub valueOf : List ℕ → ℕ
 valueOf bs = valueAfter 0 bs
 
 -- the lowest bytes of a number, as many as its field is wide
-abbrev pub bytesOf : ℕ → ℕ → List ℕ
+unfoldable pub bytesOf : ℕ → ℕ → List ℕ
 bytesOf zero n = []
 bytesOf (suc width) n = bytesOf width (n / 256) ++ (n % 256 ∷ [])
 

@@ -1,12 +1,24 @@
 // The regular trade report: 72 bytes, kind TE.
 ghost use mathlib.Core.Path.{_≡_};
 ghost use Prim.Native.Nat.{_≤_};
-ghost use lib.ListN.{length};
-ghost use Rattle.std.specs.declared.option.Option.the-variants.{Some};
-ghost use Rattle.wire.specs.TradeReport.{fieldsOf, refusalNumber, reportIn};
-use crate::header::{HeaderRow, check_header};
-use crate::number::{value_u16, value_u32, value_u64};
+ghost use lib.ListN.{length, take};
+ghost use Rattle.std.specs.Vec.{made};
+ghost use Rattle.std.specs.declared.result.Result.the-variants.{Ok};
+ghost use Rattle.wire.specs.Decimal.{overwritten};
+ghost use Rattle.wire.specs.TradeReport.{fieldsOf, frameOf, headerBytes, refusalNumber, reportIn, tradeBytes, TypedHeader, TypedTrade, writing, written};
+use crate::header::HeaderRow;
+use crate::header::check_header;
+use crate::number::place_u16;
+use crate::number::place_u32;
+use crate::number::place_u64;
+use crate::number::value_u16;
+use crate::number::value_u32;
+use crate::number::value_u64;
 use crate::symbol::Symbol;
+
+const LETTERS: [u8; 2] = *b"TE";
+
+const LENGTH: usize = 72;
 
 // Every field of the frame after the letters of its kind.
 #[derive(Clone, Copy)]
@@ -79,5 +91,61 @@ fn fields(frame: &[u8]) -> TradeReport
         side: frame[59],
         price: value_u64(&frame[60..68]),
         volume: value_u32(&frame[68..72]),
+    }
+}
+
+// The fields that every kind of frame begins with.
+fn place_header(report: &TradeReport, buffer: &mut [u8])
+    requires { ⌜ 72 ≤ length (now buffer) ⌝ }
+    ensures after { λ _. ⌜ now (buffer .exit) ≡ overwritten (now (buffer .entry)) 0 (headerBytes (now (report .entry))) ⌝ }
+    ensures typed { λ _. ⌜ TypedHeader (now (report .entry)) ⌝ }
+{
+    buffer[0..3].copy_from_slice(b"1TE");
+    buffer[3..5].copy_from_slice(&report.originator);
+    place_u64(&mut buffer[5..13], report.timestamp1);
+    place_u64(&mut buffer[13..21], report.feed_sequence);
+    place_u64(&mut buffer[21..29], report.participant_token);
+}
+
+// The fields of the trade.
+fn place_trade(report: &TradeReport, buffer: &mut [u8])
+    requires { ⌜ 72 ≤ length (now buffer) ⌝ }
+    ensures after { λ _. ⌜ now (buffer .exit) ≡ overwritten (now (buffer .entry)) 29 (tradeBytes (now (report .entry))) ⌝ }
+    ensures typed { λ _. ⌜ TypedTrade (now (report .entry)) ⌝ }
+{
+    place_u64(&mut buffer[29..37], report.timestamp2);
+    buffer[37..48].copy_from_slice(&report.symbol);
+    place_u32(&mut buffer[48..52], report.trade_id);
+    buffer[52] = report.exempt_flag;
+    buffer[53..57].copy_from_slice(&report.condition);
+    place_u16(&mut buffer[57..59], report.seller_days);
+    buffer[59] = report.side;
+    place_u64(&mut buffer[60..68], report.price);
+    place_u32(&mut buffer[68..72], report.volume);
+}
+
+impl TradeReport {
+    // Reads a frame. Writing what was read gives the same 72 bytes.
+    pub fn read(frame: &[u8]) -> Result<TradeReport, HeaderRow>
+        ensures value { λ r. ⌜ r ≡ reportIn (now (frame .entry)) ⌝ }
+        ensures again { λ r. ⌜ made r (λ report. frameOf report ≡ now (frame .entry)) ⌝ }
+    {
+        check_header(frame, LETTERS, LENGTH)?;
+        Ok(fields(frame))
+    }
+
+    // Writes 72 bytes at the front of a buffer, or nothing where the buffer is shorter; the other bytes stay as they
+    // were. Reading what was written gives the same fields.
+    pub fn write(&self, buffer: &mut [u8]) -> Result<(), WriteRefusal>
+        ensures answer { λ r. ⌜ r ≡ writing (now (buffer .entry)) ⌝ }
+        ensures after { λ _. ⌜ now (buffer .exit) ≡ written (now (self .entry)) (now (buffer .entry)) ⌝ }
+        ensures again { λ r. ⌜ made r (λ _. reportIn (take 72 (now (buffer .exit))) ≡ Ok (now (self .entry))) ⌝ }
+    {
+        if buffer.len() < LENGTH {
+            return Err(WriteRefusal::ShortBuffer);
+        }
+        place_header(self, buffer);
+        place_trade(self, buffer);
+        Ok(())
     }
 }

@@ -6,7 +6,7 @@ use Rattle.std.specs.Written.{decimal}
 use Rattle.std.proofs.shelf.Decimals.{decimal-digit, decimal-step}
 use Rattle.wire.specs.Decimal.{overwritten}
 use Rattle.wire.proofs.Digits.{one-digit, digit-more}
-use Rattle.wire.proofs.Overwriting.{overwritten-none, overwritten-push}
+use Rattle.wire.proofs.Overwriting.{Written, begun, then-byte}
 use Rattle.wire.proofs.decimal.+put_digits.Needs as need
 
 pub index-buffer-at : need.index-buffer-at
@@ -20,7 +20,7 @@ returns-then-n-lt10 t c =
     let one = one-digit n (c .if-n-lt10 .taken) in
     record {
       past = omega (arith, one);
-      after = overwritten-push old [] old at (48 + n) at (omega (arith, one)) (omega arith) (overwritten-none old at)
+      after = then-byte (48 + n) (begun old at) (omega (arith, one)) .is
           ∙ ap (overwritten old at) (sym (decimal-digit n (c .if-n-lt10 .taken)));
     }
 
@@ -40,8 +40,9 @@ returns t c =
     let old = c .args .buffer .now in
     let more = digit-more n (c .if-n-lt10 .left) (omega arith) in
     let p = c .put-digits-last in
+    let so-far : Written old at (p .result) (decimal (n / 10)) (p .last .buffer) = record { is = p .ensures .after; long = p .ensures .past } in
     record {
       past = omega (arith, more);
-      after = overwritten-push old (decimal (n / 10)) (p .last .buffer) at (48 + n % 10) (p .result) (omega (arith, more)) (p .ensures .past) (p .ensures .after)
+      after = then-byte (48 + n % 10) so-far (omega (arith, more)) .is
           ∙ ap (overwritten old at) (sym (decimal-step n (c .if-n-lt10 .left) (omega arith)));
     }

@@ -1,0 +1,7 @@
+use borrow.Author.Needs.{needs}
+use Rattle.wire.specs.Number.{bytesOf}
+use Rattle.wire.proofs.number.place_u32.Needs as need
+
+pub returns : need.returns
+unfolding bytesOf
+returns c = search needs
