@@ -48,6 +48,7 @@ pub struct TradeReport {
     pub volume: u32,
 }
 
+#[derive(Clone, Copy)]
 pub enum WriteRefusal {
     ShortBuffer,
 }
