@@ -56,14 +56,11 @@ fn print_recording(rt: &LibcRuntime, bytes: &[u8]) -> Result<(), AnyError> {
                 at += 2 + frame.len();
             }
             Err(cut) => {
-                let place = match cut {
-                    Cut::InLength => "a length",
-                    Cut::InFrame => "a frame",
+                let part = match cut {
+                    Cut::InLength => "the length that begins",
+                    Cut::InFrame => "the frame whose length stands",
                 };
-                eprintln!(
-                    rt,
-                    "frames: the recording is cut: at byte {at} begins {place} that is not all there"
-                )?;
+                eprintln!(rt, "frames: the recording ends inside {part} at byte {at}")?;
                 return Err("cut".into());
             }
         }

@@ -1,7 +1,7 @@
 // A trade report as text, a line for each field.
 use show::quoted::quoted;
 use std::error::AnyError;
-use wire::symbol::unpadded;
+use text::symbol::unpadded;
 use wire::trade_report::TradeReport;
 
 fn print_bytes(rt: &LibcRuntime, name: &str, bytes: &[u8]) -> Result<(), AnyError> {

@@ -4,7 +4,7 @@ use mathlib.Core.List.{List, [], _∷_, _++_}
 use Prim.Native.Nat.{ℕ, _+_, _/_, _%_}
 use lib.Chars.{codes}
 use lib.Dec.{eqb, ltb}
-use Rattle.wire.specs.Printable.{printable}
+use Rattle.text.specs.Printable.{printable}
 
 -- a byte that stands for itself: printable, and neither a double quote nor a backslash
 abbrev pub plain : ℕ → Bool

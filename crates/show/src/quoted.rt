@@ -7,7 +7,7 @@ ghost use Rattle.std.specs.Vec.{made};
 ghost use Rattle.show.specs.Quoted.{escaped, hexDigit, plain, quotedText};
 use std::alloc::AllocError;
 use std::alloc::Global;
-use wire::printable::is_printable;
+use text::printable::is_printable;
 
 // Whether a byte stands for itself between quotes.
 fn is_plain(byte: u8) -> bool

@@ -1,7 +1,5 @@
-pub mod decimal;
+// Frames as bytes: numbers in their parts, the header, the trade report, and recordings of frames.
 pub mod header;
 pub mod number;
-pub mod printable;
 pub mod recording;
-pub mod symbol;
 pub mod trade_report;

@@ -4,7 +4,7 @@ use borrow.Author.Needs.{needs}
 use lib.Chars.{codes}
 use Rattle.wire.specs.Number.{bytesOf}
 use Rattle.wire.proofs.Numbers.{length-bytes}
-use Rattle.wire.proofs.Overwriting.{begun, then-part}
+use Rattle.text.proofs.Overwriting.{begun, then-part}
 use Rattle.wire.proofs.trade_report.place_header.Needs as need
 
 pub returns : need.returns

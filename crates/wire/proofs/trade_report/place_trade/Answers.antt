@@ -3,7 +3,7 @@ use native.Mathlib.Omega.{arith}
 use borrow.Author.Needs.{needs}
 use Rattle.wire.specs.Number.{bytesOf}
 use Rattle.wire.proofs.Numbers.{length-bytes}
-use Rattle.wire.proofs.Overwriting.{begun, then-part, then-byte}
+use Rattle.text.proofs.Overwriting.{begun, then-part, then-byte}
 use Rattle.wire.proofs.trade_report.place_trade.Needs as need
 
 pub returns : need.returns
