@@ -1,0 +1,67 @@
+-- The sale condition matrix: the bytes of each row, what they say, and a byte's row.
+use mathlib.Core.Bool.{Bool, true, false, cond, _||_}
+use mathlib.Core.List.{List, [], _∷_}
+use Prim.Native.Nat.{ℕ}
+use lib.Chars.{codes}
+use lib.Dec.{eqb}
+use Rattle.stats.specs.declared.matrix.Effects.{Effects}
+use Rattle.stats.specs.declared.matrix.Row.{Row}
+use Rattle.stats.specs.declared.matrix.Row.the-variants.{Regular, FirstLast, VolumeOnly, OfficialClose, OfficialOpen, CorrectedClose, Silent}
+use Rattle.stats.specs.declared.matrix.Says.{Says}
+use Rattle.stats.specs.declared.matrix.Says.the-variants.{Yes, First, No}
+
+-- to the consolidated high and low, the consolidated last, the market center's high and low, its last, and the volume
+abbrev pub says : Says → Says → Says → Says → Says → Effects
+says a b c d e = record {
+  «consolidated_high_low» = a;
+  «consolidated_last» = b;
+  «center_high_low» = c;
+  «center_last» = d;
+  volume = e;
+}
+
+abbrev pub bytes-in : Row → List ℕ
+bytes-in Regular = codes "@ABDFKLOSXY156 "
+bytes-in FirstLast = codes "GPZ4"
+bytes-in VolumeOnly = codes "CHINRTUVW7"
+bytes-in OfficialClose = codes "M"
+bytes-in OfficialOpen = codes "Q"
+bytes-in CorrectedClose = codes "9"
+bytes-in Silent = codes "E8"
+
+abbrev pub effects-in : Row → Effects
+effects-in Regular = says Yes Yes Yes Yes Yes
+effects-in FirstLast = says Yes First Yes First Yes
+effects-in VolumeOnly = says No No No No Yes
+effects-in OfficialClose = says No No Yes Yes No
+effects-in OfficialOpen = says No No Yes No No
+effects-in CorrectedClose = says Yes Yes No No No
+effects-in Silent = says No No No No No
+
+abbrev pub rows : List Row
+rows = Regular ∷ FirstLast ∷ VolumeOnly ∷ OfficialClose ∷ OfficialOpen ∷ CorrectedClose ∷ Silent ∷ []
+
+abbrev pub among : ℕ → List ℕ → Bool
+among b [] = false
+among b (c ∷ cs) = eqb b c || among b cs
+
+-- the first row that has the byte; a byte that no row has says No to everything
+abbrev pub first-row : List Row → ℕ → Row
+first-row [] b = Silent
+first-row (r ∷ rs) b = cond (among b (bytes-in r)) r (first-row rs b)
+
+unfoldable pub row-of : ℕ → Row
+row-of b = first-row rows b
+
+abbrev pub byte-effects : ℕ → Effects
+byte-effects b = effects-in (row-of b)
+
+-- the rows by their numbers from 0; the program keeps a number for each byte
+abbrev pub row-numbered : ℕ → Row
+row-numbered n =
+    cond (eqb n 0) Regular
+    (cond (eqb n 1) FirstLast
+    (cond (eqb n 2) VolumeOnly
+    (cond (eqb n 3) OfficialClose
+    (cond (eqb n 4) OfficialOpen
+    (cond (eqb n 5) CorrectedClose Silent)))))

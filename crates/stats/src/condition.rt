@@ -1,0 +1,51 @@
+// A sale condition: four bytes, which together say to each statistic what the strongest of them says.
+ghost use mathlib.Core.Path.{_≡_};
+ghost use Rattle.stats.specs.Condition.{beats, together, condition-effects, counted};
+use crate::matrix::Effects;
+use crate::matrix::Says;
+use crate::matrix::byte_effects;
+
+// No beats First, and First beats Yes.
+fn stronger(a: Says, b: Says) -> Says
+    ensures { λ r. ⌜ r ≡ beats a b ⌝ }
+{
+    match (a, b) {
+        (Says::No, _) => Says::No,
+        (_, Says::No) => Says::No,
+        (Says::First, _) => Says::First,
+        (_, Says::First) => Says::First,
+        (Says::Yes, Says::Yes) => Says::Yes,
+    }
+}
+
+fn combined(a: Effects, b: Effects) -> Effects
+    ensures { λ r. ⌜ r ≡ together a b ⌝ }
+{
+    Effects {
+        consolidated_high_low: stronger(a.consolidated_high_low, b.consolidated_high_low),
+        consolidated_last: stronger(a.consolidated_last, b.consolidated_last),
+        center_high_low: stronger(a.center_high_low, b.center_high_low),
+        center_last: stronger(a.center_last, b.center_last),
+        volume: stronger(a.volume, b.volume),
+    }
+}
+
+// What the four bytes of a condition say together.
+pub fn effects(condition: [u8; 4]) -> Effects
+    ensures { λ r. ⌜ r ≡ condition-effects condition ⌝ }
+{
+    let [a, b, c, d] = condition;
+    let front = combined(byte_effects(a), byte_effects(b));
+    let back = combined(byte_effects(c), byte_effects(d));
+    combined(front, back)
+}
+
+// Whether a report with this condition counts for volume: none of its bytes says No to it.
+pub fn counts(condition: [u8; 4]) -> bool
+    ensures { λ r. ⌜ r ≡ counted condition ⌝ }
+{
+    match effects(condition).volume {
+        Says::Yes | Says::First => true,
+        Says::No => false,
+    }
+}
