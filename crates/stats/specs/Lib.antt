@@ -1,2 +1,6 @@
 pub mod Matrix
 pub mod Condition
+pub mod Entries
+pub mod Spans
+pub mod Plain
+pub mod Sheets

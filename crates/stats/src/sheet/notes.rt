@@ -1,0 +1,94 @@
+// How a sheet is made, read and added to.
+ghost use mathlib.Core.Bool.{true, cond};
+ghost use mathlib.Core.Path.{_≡_};
+ghost use Prim.Native.Nat.{_+_, _-_, _≤_, _^_};
+ghost use lib.Dec.{ltb};
+ghost use Rattle.std.specs.Options.{mapped};
+ghost use Rattle.std.specs.Results.{isOk};
+ghost use Rattle.std.specs.declared.option.Option.the-variants.{Some, None};
+ghost use Rattle.stats.specs.Plain.{sound as isSound, noted};
+ghost use Rattle.stats.specs.Sheets.{plain-of};
+use crate::entry::Entry;
+use crate::matrix::Says;
+use crate::plain_sheet::PlainSheet;
+use crate::sheet::Sheet;
+
+// The volume would pass what a sheet can hold.
+#[derive(Clone, Copy, PartialEq, Eq, Debug)]
+pub struct VolumeFull;
+
+impl<Last: Copy> Sheet<Last> {
+    // The sheet of a plain record, if that is sound.
+    pub fn check(plain: PlainSheet<Last>) -> Option<Sheet<Last>>
+        ensures { λ r. ⌜ mapped plain-of r ≡ cond (isSound plain) (Some plain) None ⌝ }
+    {
+        let PlainSheet {
+            high,
+            low,
+            last,
+            volume,
+        } = plain;
+        match (high, low) {
+            (Some(top), Some(bottom)) => {
+                if bottom <= top {
+                    Some(Sheet {
+                        high,
+                        low,
+                        last,
+                        volume,
+                    })
+                } else {
+                    None
+                }
+            }
+            (None, None) => Some(Sheet {
+                high,
+                low,
+                last,
+                volume,
+            }),
+            _ => None,
+        }
+    }
+
+    // The sheet as a plain record.
+    pub fn plain(&self) -> PlainSheet<Last>
+        ensures { λ r. ⌜ r ≡ plain-of (now (self .entry)) ⌝ }
+    {
+        PlainSheet {
+            high: self.high,
+            low: self.low,
+            last: self.last,
+            volume: self.volume,
+        }
+    }
+
+    // Enters what a sale brings, or alters nothing if the volume would pass 2^64 - 1.
+    pub fn note(&mut self, entry: Entry<Last>) -> Result<(), VolumeFull>
+        ensures test { λ r. ⌜ isOk r ≡ ltb (now (self .entry) .volume + entry .adds) (2 ^ 64) ⌝ }
+        ensures after { λ r. ⌜ plain-of (now (self .exit)) ≡ cond (isOk r) (noted (plain-of (now (self .entry))) entry) (plain-of (now (self .entry))) ⌝ }
+        ensures succeeds { λ r. ⌜ (now (self .entry) .volume ≤ 2 ^ 64 - 2 ^ 32 → isOk r ≡ true) ⌝ }
+    {
+        let Some(volume) = self.volume.checked_add(entry.adds as u64) else {
+            return Err(VolumeFull);
+        };
+        self.volume = volume;
+        if let Some(price) = entry.spans {
+            match (self.high, self.low) {
+                (Some(high), Some(low)) => {
+                    self.high = Some(high.max(price));
+                    self.low = Some(low.min(price));
+                }
+                _ => {
+                    self.high = Some(price);
+                    self.low = Some(price);
+                }
+            }
+        }
+        match (entry.says, self.last) {
+            (Says::Yes, _) | (Says::First, None) => self.last = Some(entry.last),
+            (Says::First, Some(_)) | (Says::No, _) => {}
+        }
+        Ok(())
+    }
+}
