@@ -4,3 +4,4 @@ pub mod Entries
 pub mod Spans
 pub mod Plain
 pub mod Sheets
+pub mod Reports
