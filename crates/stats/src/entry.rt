@@ -1,6 +1,7 @@
 // What one sale enters on a sheet.
 ghost use mathlib.Core.Path.{_≡_};
 ghost use Rattle.stats.specs.Entries.{center-entry, consolidated-entry, spanned-by, added-by};
+ghost use Rattle.stats.specs.declared.entry.Entry.{Entry};
 use crate::condition::counts;
 use crate::condition::effects;
 use crate::matrix::Says;
@@ -18,6 +19,14 @@ pub struct Entry<Last> {
     pub last: Last,
     // what is added to the volume: nothing if the condition does not count
     pub adds: u32,
+}
+
+// A report that can be entered on the sheets whose last is a `Last`.
+pub trait Enters<Last> {
+    ghost enter: { Self → Entry Last };
+
+    fn entry(self) -> Entry<Last>
+        ensures { λ r. ⌜ r ≡ enter self ⌝ };
 }
 
 fn spanned(says: Says, price: u64) -> Option<u64>
@@ -39,32 +48,36 @@ fn added(sale: Sale) -> u32
     }
 }
 
-// What a sale enters on its market center's sheet.
-pub fn center_entry(sale: Sale) -> Entry<u64>
-    ensures { λ r. ⌜ r ≡ center-entry sale ⌝ }
-{
-    let said = effects(sale.condition);
-    Entry {
-        spans: spanned(said.center_high_low, sale.price),
-        says: said.center_last,
-        last: sale.price,
-        adds: added(sale),
+// A sale is entered on its market center's sheet.
+pub impl Enters<u64> for Sale as CenterEntry {
+    ghost enter = { center-entry };
+
+    fn entry(self) -> Entry<u64> {
+        let said = effects(self.condition);
+        Entry {
+            spans: spanned(said.center_high_low, self.price),
+            says: said.center_last,
+            last: self.price,
+            adds: added(self),
+        }
     }
 }
 
-// What a line's sale enters on the consolidated sheet.
-pub fn consolidated_entry(from: LineSale) -> Entry<LastSale>
-    ensures { λ r. ⌜ r ≡ consolidated-entry from ⌝ }
-{
-    let sale = from.sale;
-    let said = effects(sale.condition);
-    Entry {
-        spans: spanned(said.consolidated_high_low, sale.price),
-        says: said.consolidated_last,
-        last: LastSale {
-            price: sale.price,
-            line: from.line,
-        },
-        adds: added(sale),
+// A line's sale is entered on the consolidated sheet, whose last names the line.
+pub impl Enters<LastSale> for LineSale as ConsolidatedEntry {
+    ghost enter = { consolidated-entry };
+
+    fn entry(self) -> Entry<LastSale> {
+        let sale = self.sale;
+        let said = effects(sale.condition);
+        Entry {
+            spans: spanned(said.consolidated_high_low, sale.price),
+            says: said.consolidated_last,
+            last: LastSale {
+                price: sale.price,
+                line: self.line,
+            },
+            adds: added(sale),
+        }
     }
 }

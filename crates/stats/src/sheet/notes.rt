@@ -5,9 +5,12 @@ ghost use Prim.Native.Nat.{_+_, _-_, _≤_, _^_};
 ghost use lib.Dec.{ltb};
 ghost use Rattle.std.specs.Options.{mapped};
 ghost use Rattle.std.specs.Results.{isOk};
+ghost use Rattle.std.specs.Vec.{made};
 ghost use Rattle.std.specs.declared.option.Option.the-variants.{Some, None};
-ghost use Rattle.stats.specs.Plain.{sound as isSound, noted};
+ghost use Rattle.stats.specs.Plain.{empty-sheet, sound as isSound, noted};
+ghost use Rattle.stats.specs.Reports.{Noted, Unordered, sheet-of, total};
 ghost use Rattle.stats.specs.Sheets.{plain-of};
+use crate::entry::Enters;
 use crate::entry::Entry;
 use crate::matrix::Says;
 use crate::plain_sheet::PlainSheet;
@@ -18,6 +21,31 @@ use crate::sheet::Sheet;
 pub struct VolumeFull;
 
 impl<Last: Copy> Sheet<Last> {
+    // The sheet before any report.
+    pub fn empty() -> Sheet<Last>
+        ensures { λ r. ⌜ plain-of r ≡ empty-sheet ⌝ }
+    {
+        Sheet {
+            high: None,
+            low: None,
+            last: None,
+            volume: 0,
+        }
+    }
+
+    // The sheet of some reports, in the order in which they came.
+    pub fn of<Report: Enters<Last> + Copy>(reports: &[Report]) -> Result<Sheet<Last>, VolumeFull>
+        ensures test { λ r. ⌜ isOk r ≡ ltb (total enter (now (reports .entry))) (2 ^ 64) ⌝ }
+        ensures value { λ r. ⌜ made r (λ s. plain-of s ≡ sheet-of enter (now (reports .entry))) ⌝ }
+        ensures unordered { λ r. ⌜ made r (λ s. Unordered enter (now (reports .entry)) (plain-of s)) ⌝ }
+    {
+        let mut sheet = Sheet::empty();
+        for report in reports {
+            sheet.note(*report)?;
+        }
+        Ok(sheet)
+    }
+
     // The sheet of a plain record, if that is sound.
     pub fn check(plain: PlainSheet<Last>) -> Option<Sheet<Last>>
         ensures { λ r. ⌜ mapped plain-of r ≡ cond (isSound plain) (Some plain) None ⌝ }
@@ -63,8 +91,17 @@ impl<Last: Copy> Sheet<Last> {
         }
     }
 
-    // Enters what a sale brings, or alters nothing if the volume would pass 2^64 - 1.
-    pub fn note(&mut self, entry: Entry<Last>) -> Result<(), VolumeFull>
+    // Enters a report, or alters nothing if the volume would pass 2^64 - 1.
+    pub fn note<Report: Enters<Last>>(&mut self, report: Report) -> Result<(), VolumeFull>
+        ensures test { λ r. ⌜ isOk r ≡ ltb (now (self .entry) .volume + enter report .adds) (2 ^ 64) ⌝ }
+        ensures after { λ r. ⌜ plain-of (now (self .exit)) ≡ cond (isOk r) (noted (plain-of (now (self .entry))) (enter report)) (plain-of (now (self .entry))) ⌝ }
+        ensures succeeds { λ r. ⌜ (now (self .entry) .volume ≤ 2 ^ 64 - 2 ^ 32 → isOk r ≡ true) ⌝ }
+        ensures holds { λ r. ⌜ (isOk r ≡ true → Noted enter (plain-of (now (self .entry))) report (plain-of (now (self .exit)))) ⌝ }
+    {
+        self.put(report.entry())
+    }
+
+    fn put(&mut self, entry: Entry<Last>) -> Result<(), VolumeFull>
         ensures test { λ r. ⌜ isOk r ≡ ltb (now (self .entry) .volume + entry .adds) (2 ^ 64) ⌝ }
         ensures after { λ r. ⌜ plain-of (now (self .exit)) ≡ cond (isOk r) (noted (plain-of (now (self .entry))) entry) (plain-of (now (self .entry))) ⌝ }
         ensures succeeds { λ r. ⌜ (now (self .entry) .volume ≤ 2 ^ 64 - 2 ^ 32 → isOk r ≡ true) ⌝ }
