@@ -5,3 +5,4 @@ pub mod Spans
 pub mod Plain
 pub mod Sheets
 pub mod Reports
+pub mod Records

@@ -56,12 +56,12 @@ row-of b = first-row rows b
 abbrev pub byte-effects : ℕ → Effects
 byte-effects b = effects-in (row-of b)
 
--- the rows by their numbers from 0; the program keeps a number for each byte
-abbrev pub row-numbered : ℕ → Row
-row-numbered n =
-    cond (eqb n 0) Regular
-    (cond (eqb n 1) FirstLast
-    (cond (eqb n 2) VolumeOnly
-    (cond (eqb n 3) OfficialClose
-    (cond (eqb n 4) OfficialOpen
-    (cond (eqb n 5) CorrectedClose Silent)))))
+-- the rows by their letters; the program keeps a letter for each byte
+abbrev pub row-lettered : ℕ → Row
+row-lettered l =
+    cond (among l (codes "R")) Regular
+    (cond (among l (codes "F")) FirstLast
+    (cond (among l (codes "V")) VolumeOnly
+    (cond (among l (codes "C")) OfficialClose
+    (cond (among l (codes "O")) OfficialOpen
+    (cond (among l (codes "X")) CorrectedClose Silent)))))

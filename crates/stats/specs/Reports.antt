@@ -10,10 +10,6 @@ use Rattle.stats.specs.declared.entry.Entry.{Entry}
 use Rattle.stats.specs.declared.matrix.Says.{Says}
 use Rattle.stats.specs.declared.matrix.Says.the-variants.{Yes, First, No}
 use Rattle.stats.specs.declared.plain_sheet.PlainSheet.{PlainSheet}
-use Rattle.stats.specs.declared.sale.LastSale.{LastSale}
-use Rattle.stats.specs.declared.sale.LineSale.{LineSale}
-use Rattle.stats.specs.declared.sale.Sale.{Sale}
-use Rattle.stats.specs.Entries.{center-entry, consolidated-entry}
 use Rattle.stats.specs.Plain.{higher, lower, or-else}
 
 -- what each report brings, joined by an operation from what stands where there are none
@@ -59,14 +55,6 @@ sheet-of enter rs = record {
   last = or-else (latest-yes enter rs) (earliest-first enter rs);
   volume = total enter rs;
 }
-
--- a market center's sheet, of its own sales alone
-abbrev pub center-sheet : List Sale → PlainSheet ℕ
-center-sheet rs = sheet-of center-entry rs
-
--- the consolidated sheet, of the sales of all lines
-abbrev pub consolidated-sheet : List LineSale → PlainSheet LastSale
-consolidated-sheet rs = sheet-of consolidated-entry rs
 
 -- a sheet that held any list of reports holds that list and one more
 abbrev pub Noted : {R L : Type 0} → (R → Entry L) → PlainSheet L → R → PlainSheet L → Type 0

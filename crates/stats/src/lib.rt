@@ -4,5 +4,6 @@ pub mod condition;
 pub mod entry;
 pub mod matrix;
 pub mod plain_sheet;
+pub mod record;
 pub mod sale;
 pub mod sheet;

@@ -9,6 +9,7 @@ ghost use Rattle.std.specs.Vec.{made};
 ghost use Rattle.std.specs.declared.option.Option.the-variants.{Some, None};
 ghost use Rattle.stats.specs.Plain.{empty-sheet, sound as isSound, noted};
 ghost use Rattle.stats.specs.Reports.{Noted, Unordered, sheet-of, total};
+ghost use Rattle.stats.specs.Spans.{spans};
 ghost use Rattle.stats.specs.Sheets.{plain-of};
 use crate::entry::Enters;
 use crate::entry::Entry;
@@ -19,6 +20,17 @@ use crate::sheet::Sheet;
 // The volume would pass what a sheet can hold.
 #[derive(Clone, Copy, PartialEq, Eq, Debug)]
 pub struct VolumeFull;
+
+// Whether there are both a high and a low, the low not above the high, or neither.
+fn is_span(high: Option<u64>, low: Option<u64>) -> bool
+    ensures { λ r. ⌜ r ≡ spans high low ⌝ }
+{
+    match (high, low) {
+        (Some(high), Some(low)) => low <= high,
+        (None, None) => true,
+        (Some(_), None) | (None, Some(_)) => false,
+    }
+}
 
 impl<Last: Copy> Sheet<Last> {
     // The sheet before any report.
@@ -50,38 +62,22 @@ impl<Last: Copy> Sheet<Last> {
     pub fn check(plain: PlainSheet<Last>) -> Option<Sheet<Last>>
         ensures { λ r. ⌜ mapped plain-of r ≡ cond (isSound plain) (Some plain) None ⌝ }
     {
-        let PlainSheet {
-            high,
-            low,
-            last,
-            volume,
-        } = plain;
-        match (high, low) {
-            (Some(top), Some(bottom)) => {
-                if bottom <= top {
-                    Some(Sheet {
-                        high,
-                        low,
-                        last,
-                        volume,
-                    })
-                } else {
-                    None
-                }
-            }
-            (None, None) => Some(Sheet {
-                high,
-                low,
-                last,
-                volume,
-            }),
-            _ => None,
+        if is_span(plain.high, plain.low) {
+            Some(Sheet {
+                high: plain.high,
+                low: plain.low,
+                last: plain.last,
+                volume: plain.volume,
+            })
+        } else {
+            None
         }
     }
 
     // The sheet as a plain record.
     pub fn plain(&self) -> PlainSheet<Last>
-        ensures { λ r. ⌜ r ≡ plain-of (now (self .entry)) ⌝ }
+        ensures value { λ r. ⌜ r ≡ plain-of (now (self .entry)) ⌝ }
+        ensures sound { λ r. ⌜ isSound r ≡ true ⌝ }
     {
         PlainSheet {
             high: self.high,
@@ -96,6 +92,7 @@ impl<Last: Copy> Sheet<Last> {
         ensures test { λ r. ⌜ isOk r ≡ ltb (now (self .entry) .volume + enter report .adds) (2 ^ 64) ⌝ }
         ensures after { λ r. ⌜ plain-of (now (self .exit)) ≡ cond (isOk r) (noted (plain-of (now (self .entry))) (enter report)) (plain-of (now (self .entry))) ⌝ }
         ensures succeeds { λ r. ⌜ (now (self .entry) .volume ≤ 2 ^ 64 - 2 ^ 32 → isOk r ≡ true) ⌝ }
+        ensures bound { λ _. ⌜ now (self .exit) .volume ≤ now (self .entry) .volume + 4294967295 ⌝ }
         ensures holds { λ r. ⌜ (isOk r ≡ true → Noted enter (plain-of (now (self .entry))) report (plain-of (now (self .exit)))) ⌝ }
     {
         self.put(report.entry())
@@ -105,6 +102,7 @@ impl<Last: Copy> Sheet<Last> {
         ensures test { λ r. ⌜ isOk r ≡ ltb (now (self .entry) .volume + entry .adds) (2 ^ 64) ⌝ }
         ensures after { λ r. ⌜ plain-of (now (self .exit)) ≡ cond (isOk r) (noted (plain-of (now (self .entry))) entry) (plain-of (now (self .entry))) ⌝ }
         ensures succeeds { λ r. ⌜ (now (self .entry) .volume ≤ 2 ^ 64 - 2 ^ 32 → isOk r ≡ true) ⌝ }
+        ensures bound { λ _. ⌜ now (self .exit) .volume ≤ now (self .entry) .volume + 4294967295 ⌝ }
     {
         let Some(volume) = self.volume.checked_add(entry.adds as u64) else {
             return Err(VolumeFull);

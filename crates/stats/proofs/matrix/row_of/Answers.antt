@@ -1,23 +1,24 @@
 use mathlib.Core.Path.{_≡_, refl, ap, _∙_}
 use mathlib.Core.List.{List, [], _∷_}
 use Prim.Native.Nat.{ℕ}
+use lib.Chars.{codes}
 use borrow.Author.Needs.{needs}
-use Rattle.stats.specs.Matrix.{row-of, row-numbered}
+use Rattle.stats.specs.Matrix.{row-of, row-lettered}
 use Rattle.stats.specs.declared.matrix.Row.{Row}
 use Rattle.stats.specs.declared.matrix.Row.the-variants.{Regular, FirstLast, VolumeOnly, OfficialClose, OfficialOpen, CorrectedClose, Silent}
 use Rattle.stats.proofs.Table.{by-table}
 use Rattle.stats.proofs.matrix.row_of.Needs as need
 
-abbrev number : Row → ℕ
-number Regular = 0
-number FirstLast = 1
-number VolumeOnly = 2
-number OfficialClose = 3
-number OfficialOpen = 4
-number CorrectedClose = 5
-number Silent = 6
+abbrev letter : Row → ℕ
+letter Regular = 82
+letter FirstLast = 70
+letter VolumeOnly = 86
+letter OfficialClose = 67
+letter OfficialOpen = 79
+letter CorrectedClose = 88
+letter Silent = 46
 
-again : (r : Row) → row-numbered (number r) ≡ r
+again : (r : Row) → row-lettered (letter r) ≡ r
 again Regular = refl
 again FirstLast = refl
 again VolumeOnly = refl
@@ -27,32 +28,15 @@ again CorrectedClose = refl
 again Silent = refl
 
 -- the program's table
-abbrev numbers : List ℕ
-numbers =
-    6 ∷ 6 ∷ 6 ∷ 6 ∷ 6 ∷ 6 ∷ 6 ∷ 6 ∷ 6 ∷ 6 ∷ 6 ∷ 6 ∷ 6 ∷ 6 ∷ 6 ∷ 6
-    ∷ 6 ∷ 6 ∷ 6 ∷ 6 ∷ 6 ∷ 6 ∷ 6 ∷ 6 ∷ 6 ∷ 6 ∷ 6 ∷ 6 ∷ 6 ∷ 6 ∷ 6 ∷ 6
-    ∷ 0 ∷ 6 ∷ 6 ∷ 6 ∷ 6 ∷ 6 ∷ 6 ∷ 6 ∷ 6 ∷ 6 ∷ 6 ∷ 6 ∷ 6 ∷ 6 ∷ 6 ∷ 6
-    ∷ 6 ∷ 0 ∷ 6 ∷ 6 ∷ 1 ∷ 0 ∷ 0 ∷ 2 ∷ 6 ∷ 5 ∷ 6 ∷ 6 ∷ 6 ∷ 6 ∷ 6 ∷ 6
-    ∷ 0 ∷ 0 ∷ 0 ∷ 2 ∷ 0 ∷ 6 ∷ 0 ∷ 1 ∷ 2 ∷ 2 ∷ 6 ∷ 0 ∷ 0 ∷ 3 ∷ 2 ∷ 0
-    ∷ 1 ∷ 4 ∷ 2 ∷ 0 ∷ 2 ∷ 2 ∷ 2 ∷ 2 ∷ 0 ∷ 0 ∷ 1 ∷ 6 ∷ 6 ∷ 6 ∷ 6 ∷ 6
-    ∷ 6 ∷ 6 ∷ 6 ∷ 6 ∷ 6 ∷ 6 ∷ 6 ∷ 6 ∷ 6 ∷ 6 ∷ 6 ∷ 6 ∷ 6 ∷ 6 ∷ 6 ∷ 6
-    ∷ 6 ∷ 6 ∷ 6 ∷ 6 ∷ 6 ∷ 6 ∷ 6 ∷ 6 ∷ 6 ∷ 6 ∷ 6 ∷ 6 ∷ 6 ∷ 6 ∷ 6 ∷ 6
-    ∷ 6 ∷ 6 ∷ 6 ∷ 6 ∷ 6 ∷ 6 ∷ 6 ∷ 6 ∷ 6 ∷ 6 ∷ 6 ∷ 6 ∷ 6 ∷ 6 ∷ 6 ∷ 6
-    ∷ 6 ∷ 6 ∷ 6 ∷ 6 ∷ 6 ∷ 6 ∷ 6 ∷ 6 ∷ 6 ∷ 6 ∷ 6 ∷ 6 ∷ 6 ∷ 6 ∷ 6 ∷ 6
-    ∷ 6 ∷ 6 ∷ 6 ∷ 6 ∷ 6 ∷ 6 ∷ 6 ∷ 6 ∷ 6 ∷ 6 ∷ 6 ∷ 6 ∷ 6 ∷ 6 ∷ 6 ∷ 6
-    ∷ 6 ∷ 6 ∷ 6 ∷ 6 ∷ 6 ∷ 6 ∷ 6 ∷ 6 ∷ 6 ∷ 6 ∷ 6 ∷ 6 ∷ 6 ∷ 6 ∷ 6 ∷ 6
-    ∷ 6 ∷ 6 ∷ 6 ∷ 6 ∷ 6 ∷ 6 ∷ 6 ∷ 6 ∷ 6 ∷ 6 ∷ 6 ∷ 6 ∷ 6 ∷ 6 ∷ 6 ∷ 6
-    ∷ 6 ∷ 6 ∷ 6 ∷ 6 ∷ 6 ∷ 6 ∷ 6 ∷ 6 ∷ 6 ∷ 6 ∷ 6 ∷ 6 ∷ 6 ∷ 6 ∷ 6 ∷ 6
-    ∷ 6 ∷ 6 ∷ 6 ∷ 6 ∷ 6 ∷ 6 ∷ 6 ∷ 6 ∷ 6 ∷ 6 ∷ 6 ∷ 6 ∷ 6 ∷ 6 ∷ 6 ∷ 6
-    ∷ 6 ∷ 6 ∷ 6 ∷ 6 ∷ 6 ∷ 6 ∷ 6 ∷ 6 ∷ 6 ∷ 6 ∷ 6 ∷ 6 ∷ 6 ∷ 6 ∷ 6 ∷ 6
-    ∷ []
+letters : List ℕ
+letters = codes "................................R................R..FRRV.X......RRRVR.RFVV.RRCVRFOVRVVVVRRF....................................................................................................................................................................."
 
 rule : ℕ → ℕ
-rule b = number (row-of b)
+rule b = letter (row-of b)
 
 pub returns : need.returns
-unfolding row-of rule
+unfolding row-of rule letters
 returns c =
-    c .row-numbered .ensures
-    ∙ ap row-numbered (by-table rule numbers refl (c .args .byte) (search needs))
+    c .row-lettered .ensures
+    ∙ ap row-lettered (by-table rule letters refl (c .args .byte) (search needs))
     ∙ again (row-of (c .args .byte))

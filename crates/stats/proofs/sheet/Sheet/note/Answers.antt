@@ -17,5 +17,6 @@ returns g c =
       test = search needs;
       after = a;
       succeeds = search needs;
+      bound = search needs;
       holds = noting-if (g .Report·Enters .enter) ok s (plain-of (c .put .last .self)) (c .args .report) a;
     }
