@@ -51,8 +51,8 @@ module _ {R L : Type 0} (enter : R → Entry L) where
 
   pub sheet-push : (rs : List R) (r : R) → sheet-of enter (rs ++ (r ∷ [])) ≡ noted (sheet-of enter rs) (enter r)
   sheet-push rs r =
-      let h = joined-push highs (λ q. enter q .spans) rs r in
-      let l = joined-push lows (λ q. enter q .spans) rs r in
+      let h = joined-push highs (λ q. enter q .spanned) rs r in
+      let l = joined-push lows (λ q. enter q .spanned) rs r in
       let v = joined-push sums (λ q. enter q .adds) rs r in
       let p = last-push rs r in
       λ i. record { high = h i; low = l i; last = p i; volume = v i }
@@ -67,7 +67,7 @@ module _ {R L : Type 0} (enter : R → Entry L) where
 
   pub unordered : (rs : List R) → Unordered enter rs (sheet-of enter rs)
   unordered rs others s = record {
-    high = joined-shuffled highs (λ q. enter q .spans) rs others s;
-    low = joined-shuffled lows (λ q. enter q .spans) rs others s;
+    high = joined-shuffled highs (λ q. enter q .spanned) rs others s;
+    low = joined-shuffled lows (λ q. enter q .spanned) rs others s;
     volume = joined-shuffled sums (λ q. enter q .adds) rs others s;
   }

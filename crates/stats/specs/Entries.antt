@@ -20,7 +20,7 @@ added-by s = cond (counted (s .condition)) (s .volume) 0
 
 abbrev pub center-entry : Sale → Entry ℕ
 center-entry s = record {
-  spans = spanned-by (condition-effects (s .condition) .«center_high_low») (s .price);
+  spanned = spanned-by (condition-effects (s .condition) .«center_high_low») (s .price);
   says = condition-effects (s .condition) .«center_last»;
   last = s .price;
   adds = added-by s;
@@ -29,7 +29,7 @@ center-entry s = record {
 -- the consolidated last names its line
 abbrev pub consolidated-entry : LineSale → Entry LastSale
 consolidated-entry r = record {
-  spans = spanned-by (condition-effects (r .sale .condition) .«consolidated_high_low») (r .sale .price);
+  spanned = spanned-by (condition-effects (r .sale .condition) .«consolidated_high_low») (r .sale .price);
   says = condition-effects (r .sale .condition) .«consolidated_last»;
   last = record { price = r .sale .price; line = r .line };
   adds = added-by (r .sale);

@@ -39,8 +39,8 @@ last-after No old new = old
 
 abbrev pub noted : {L : Type 0} → PlainSheet L → Entry L → PlainSheet L
 noted s e = record {
-  high = higher (s .high) (e .spans);
-  low = lower (s .low) (e .spans);
+  high = higher (s .high) (e .spanned);
+  low = lower (s .low) (e .spanned);
   last = last-after (e .says) (s .last) (e .last);
   volume = s .volume + e .adds;
 }

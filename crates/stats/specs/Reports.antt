@@ -19,10 +19,10 @@ joined none op brings (r ∷ rs) = op (brings r) (joined none op brings rs)
 
 -- the highest and the lowest of the prices that are spanned
 abbrev pub highest : {R L : Type 0} → (R → Entry L) → List R → Option ℕ
-highest enter rs = joined None higher (λ r. enter r .spans) rs
+highest enter rs = joined None higher (λ r. enter r .spanned) rs
 
 abbrev pub lowest : {R L : Type 0} → (R → Entry L) → List R → Option ℕ
-lowest enter rs = joined None lower (λ r. enter r .spans) rs
+lowest enter rs = joined None lower (λ r. enter r .spanned) rs
 
 -- the volumes that count, added up
 abbrev pub total : {R L : Type 0} → (R → Entry L) → List R → ℕ

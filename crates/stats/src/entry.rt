@@ -13,7 +13,7 @@ use crate::sale::Sale;
 #[derive(Clone, Copy)]
 pub struct Entry<Last> {
     // the price that the high and the low span, if the condition says Yes to them
-    pub spans: Option<u64>,
+    pub spanned: Option<u64>,
     // what the condition says to the last, and what would stand there
     pub says: Says,
     pub last: Last,
@@ -29,7 +29,7 @@ pub trait Enters<Last> {
         ensures { λ r. ⌜ r ≡ enter self ⌝ };
 }
 
-fn spanned(says: Says, price: u64) -> Option<u64>
+fn spanned_price(says: Says, price: u64) -> Option<u64>
     ensures { λ r. ⌜ r ≡ spanned-by says price ⌝ }
 {
     match says {
@@ -55,7 +55,7 @@ pub impl Enters<u64> for Sale as CenterEntry {
     fn entry(self) -> Entry<u64> {
         let said = effects(self.condition);
         Entry {
-            spans: spanned(said.center_high_low, self.price),
+            spanned: spanned_price(said.center_high_low, self.price),
             says: said.center_last,
             last: self.price,
             adds: added(self),
@@ -71,7 +71,7 @@ pub impl Enters<LastSale> for LineSale as ConsolidatedEntry {
         let sale = self.sale;
         let said = effects(sale.condition);
         Entry {
-            spans: spanned(said.consolidated_high_low, sale.price),
+            spanned: spanned_price(said.consolidated_high_low, sale.price),
             says: said.consolidated_last,
             last: LastSale {
                 price: sale.price,

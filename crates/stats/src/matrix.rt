@@ -1,6 +1,6 @@
 // The sale condition matrix: to which statistics a trade report with a given condition byte counts.
 ghost use mathlib.Core.Path.{_≡_};
-ghost use Rattle.stats.specs.Matrix.{row-of, row-lettered, effects-in, byte-effects};
+ghost use Rattle.stats.specs.Matrix.{row-of, row-lettered, says, effects-in, byte-effects};
 
 // What a condition says to one of the statistics. `First` counts only where nothing stands yet.
 #[derive(Clone, Copy, PartialEq, Eq, Debug)]
@@ -79,59 +79,36 @@ pub fn row_of(byte: u8) -> Row
     row_lettered(ROW_LETTERS[byte as usize])
 }
 
+// A line of the matrix, column by column.
+fn columns(
+    consolidated_high_low: Says,
+    consolidated_last: Says,
+    center_high_low: Says,
+    center_last: Says,
+    volume: Says,
+) -> Effects
+    ensures { λ r. ⌜ r ≡ says «consolidated_high_low» «consolidated_last» «center_high_low» «center_last» volume ⌝ }
+{
+    Effects {
+        consolidated_high_low,
+        consolidated_last,
+        center_high_low,
+        center_last,
+        volume,
+    }
+}
+
 fn effects_in(row: Row) -> Effects
     ensures { λ r. ⌜ r ≡ effects-in row ⌝ }
 {
     match row {
-        Row::Regular => Effects {
-            consolidated_high_low: Says::Yes,
-            consolidated_last: Says::Yes,
-            center_high_low: Says::Yes,
-            center_last: Says::Yes,
-            volume: Says::Yes,
-        },
-        Row::FirstLast => Effects {
-            consolidated_high_low: Says::Yes,
-            consolidated_last: Says::First,
-            center_high_low: Says::Yes,
-            center_last: Says::First,
-            volume: Says::Yes,
-        },
-        Row::VolumeOnly => Effects {
-            consolidated_high_low: Says::No,
-            consolidated_last: Says::No,
-            center_high_low: Says::No,
-            center_last: Says::No,
-            volume: Says::Yes,
-        },
-        Row::OfficialClose => Effects {
-            consolidated_high_low: Says::No,
-            consolidated_last: Says::No,
-            center_high_low: Says::Yes,
-            center_last: Says::Yes,
-            volume: Says::No,
-        },
-        Row::OfficialOpen => Effects {
-            consolidated_high_low: Says::No,
-            consolidated_last: Says::No,
-            center_high_low: Says::Yes,
-            center_last: Says::No,
-            volume: Says::No,
-        },
-        Row::CorrectedClose => Effects {
-            consolidated_high_low: Says::Yes,
-            consolidated_last: Says::Yes,
-            center_high_low: Says::No,
-            center_last: Says::No,
-            volume: Says::No,
-        },
-        Row::Silent => Effects {
-            consolidated_high_low: Says::No,
-            consolidated_last: Says::No,
-            center_high_low: Says::No,
-            center_last: Says::No,
-            volume: Says::No,
-        },
+        Row::Regular => columns(Says::Yes, Says::Yes, Says::Yes, Says::Yes, Says::Yes),
+        Row::FirstLast => columns(Says::Yes, Says::First, Says::Yes, Says::First, Says::Yes),
+        Row::VolumeOnly => columns(Says::No, Says::No, Says::No, Says::No, Says::Yes),
+        Row::OfficialClose => columns(Says::No, Says::No, Says::Yes, Says::Yes, Says::No),
+        Row::OfficialOpen => columns(Says::No, Says::No, Says::Yes, Says::No, Says::No),
+        Row::CorrectedClose => columns(Says::Yes, Says::Yes, Says::No, Says::No, Says::No),
+        Row::Silent => columns(Says::No, Says::No, Says::No, Says::No, Says::No),
     }
 }
 

@@ -7,7 +7,7 @@ ghost use Rattle.std.specs.Options.{mapped};
 ghost use Rattle.std.specs.Results.{isOk};
 ghost use Rattle.std.specs.Vec.{made};
 ghost use Rattle.std.specs.declared.option.Option.the-variants.{Some, None};
-ghost use Rattle.stats.specs.Plain.{empty-sheet, sound as isSound, noted};
+ghost use Rattle.stats.specs.Plain.{empty-sheet, last-after, noted, sound as isSound};
 ghost use Rattle.stats.specs.Reports.{Noted, Unordered, sheet-of, total};
 ghost use Rattle.stats.specs.Spans.{spans};
 ghost use Rattle.stats.specs.Sheets.{plain-of};
@@ -29,6 +29,18 @@ fn is_span(high: Option<u64>, low: Option<u64>) -> bool
         (Some(high), Some(low)) => low <= high,
         (None, None) => true,
         (Some(_), None) | (None, Some(_)) => false,
+    }
+}
+
+// Yes sets the last; First sets it only where there is none.
+fn last_after<Last: Copy>(says: Says, old: Option<Last>, new: Last) -> Option<Last>
+    ensures { λ r. ⌜ r ≡ last-after says old new ⌝ }
+{
+    match (says, old) {
+        (Says::Yes, _) => Some(new),
+        (Says::First, None) => Some(new),
+        (Says::First, Some(last)) => Some(last),
+        (Says::No, last) => last,
     }
 }
 
@@ -108,7 +120,7 @@ impl<Last: Copy> Sheet<Last> {
             return Err(VolumeFull);
         };
         self.volume = volume;
-        if let Some(price) = entry.spans {
+        if let Some(price) = entry.spanned {
             match (self.high, self.low) {
                 (Some(high), Some(low)) => {
                     self.high = Some(high.max(price));
@@ -120,10 +132,7 @@ impl<Last: Copy> Sheet<Last> {
                 }
             }
         }
-        match (entry.says, self.last) {
-            (Says::Yes, _) | (Says::First, None) => self.last = Some(entry.last),
-            (Says::First, Some(_)) | (Says::No, _) => {}
-        }
+        self.last = last_after(entry.says, self.last, entry.last);
         Ok(())
     }
 }
