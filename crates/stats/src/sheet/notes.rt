@@ -64,10 +64,21 @@ impl<Last: Copy> Sheet<Last> {
         ensures unordered { λ r. ⌜ made r (λ s. Unordered enter (now (reports .entry)) (plain-of s)) ⌝ }
     {
         let mut sheet = Sheet::empty();
-        for report in reports {
-            sheet.note(*report)?;
-        }
+        sheet.fill(reports)?;
         Ok(sheet)
+    }
+
+    // Enters the reports on an empty sheet, as far as the volume allows.
+    fn fill<Report: Enters<Last> + Copy>(&mut self, reports: &[Report]) -> Result<(), VolumeFull>
+        requires { ⌜ plain-of (now self) ≡ empty-sheet ⌝ }
+        ensures test { λ r. ⌜ isOk r ≡ ltb (total enter (now (reports .entry))) (2 ^ 64) ⌝ }
+        ensures after { λ r. ⌜ (isOk r ≡ true → plain-of (now (self .exit)) ≡ sheet-of enter (now (reports .entry))) ⌝ }
+        ensures unordered { λ r. ⌜ (isOk r ≡ true → Unordered enter (now (reports .entry)) (plain-of (now (self .exit)))) ⌝ }
+    {
+        for report in reports {
+            self.note(*report)?;
+        }
+        Ok(())
     }
 
     // The sheet of a plain record, if that is sound.
