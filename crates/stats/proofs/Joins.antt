@@ -50,16 +50,16 @@ lower-comm (Some p) (Some q) = ap Some (omega arith)
 pub lows : Joins None lower
 lows = record { left = λ x. refl; assoc = lower-assoc; comm = lower-comm }
 
+-- two that are joined to a third change places
+pub swapped : {M : Type 0} {none : M} {op : M → M → M} (J : Joins none op) (x y z : M) → op x (op y z) ≡ op y (op x z)
+swapped {op} J x y z = sym (J .assoc x y z) ∙ ap (λ w. op w z) (J .comm x y) ∙ J .assoc y x z
+
 module _ {R M : Type 0} {none : M} {op : M → M → M} (J : Joins none op) (f : R → M) where
   abbrev all : List R → M
   all rs = joined none op f rs
 
   right : (x : M) → op x none ≡ x
   right x = J .comm x none ∙ J .left x
-
-  -- two that are joined to a third change places
-  swapped : (x y z : M) → op x (op y z) ≡ op y (op x z)
-  swapped x y z = sym (J .assoc x y z) ∙ ap (λ w. op w z) (J .comm x y) ∙ J .assoc y x z
 
   pub joined-append : (rs qs : List R) → joined none op f (rs ++ qs) ≡ op (joined none op f rs) (joined none op f qs)
   unfolding joined
@@ -74,11 +74,11 @@ module _ {R M : Type 0} {none : M} {op : M → M → M} (J : Joins none op) (f :
   set-front : (rs : List R) (k : ℕ) (r d : R) → k < length rs → op (f (getD rs k d)) (all (set rs k r)) ≡ op (f r) (all rs)
   unfolding joined
   set-front [] k r d h = absurd (omega arith)
-  set-front (q ∷ rs) zero r d h = swapped (f q) (f r) (all rs)
+  set-front (q ∷ rs) zero r d h = swapped J (f q) (f r) (all rs)
   set-front (q ∷ rs) (suc k) r d h =
-      swapped (f (getD rs k d)) (f q) (all (set rs k r))
+      swapped J (f (getD rs k d)) (f q) (all (set rs k r))
       ∙ ap (op (f q)) (set-front rs k r d (omega arith))
-      ∙ swapped (f q) (f r) (all rs)
+      ∙ swapped J (f q) (f r) (all rs)
 
   exchange : (rs : List R) (i k : ℕ) (d : R) → i < length rs → k < length rs → all (set (set rs i (getD rs k d)) k (getD rs i d)) ≡ all rs
   unfolding joined

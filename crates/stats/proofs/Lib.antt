@@ -1,4 +1,5 @@
 pub mod Joins
 pub mod Noting
+pub mod Shares
 pub mod Slices
 pub mod Table

@@ -3,7 +3,7 @@ ghost use mathlib.Core.Path.{_≡_};
 ghost use Rattle.stats.specs.Matrix.{row-of, row-lettered, says, effects-in, byte-effects};
 
 // What a condition says to one of the statistics. `First` counts only where nothing stands yet.
-#[derive(Clone, Copy, PartialEq, Eq, Debug)]
+#[derive(Clone, Copy, PartialEq, Eq)]
 pub enum Says {
     Yes,
     First,
@@ -11,7 +11,7 @@ pub enum Says {
 }
 
 // What a condition byte, or a whole condition, says to each of the statistics.
-#[derive(Clone, Copy, PartialEq, Eq, Debug)]
+#[derive(Clone, Copy, PartialEq, Eq)]
 pub struct Effects {
     pub consolidated_high_low: Says,
     pub consolidated_last: Says,

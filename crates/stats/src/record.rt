@@ -2,9 +2,10 @@
 ghost use mathlib.Core.Path.{_≡_};
 ghost use Rattle.stats.specs.Records.{fresh-record};
 use crate::plain_sheet::PlainSheet;
+use crate::sheet::Sheet;
 
 // Whether a mass trading action lets the line quote the security.
-#[derive(Clone, Copy, PartialEq, Eq, Debug)]
+#[derive(Clone, Copy, PartialEq, Eq)]
 pub enum QuoteMark {
     Welcome,
     Barred,
@@ -26,12 +27,7 @@ impl MarketCenterRecord {
         MarketCenterRecord {
             next_trade_id: 1,
             quote_mark: QuoteMark::Welcome,
-            sheet: PlainSheet {
-                high: None,
-                low: None,
-                last: None,
-                volume: 0,
-            },
+            sheet: Sheet::empty().plain(),
         }
     }
 }

@@ -16,7 +16,7 @@ pub struct LineSale {
 }
 
 // A consolidated last: the price, and the line that it came from.
-#[derive(Clone, Copy, PartialEq, Eq, Debug)]
+#[derive(Clone, Copy, PartialEq, Eq)]
 pub struct LastSale {
     pub price: u64,
     pub line: u8,
