@@ -26,7 +26,7 @@ together a b =
     (beats (a .volume) (b .volume))
 
 -- what the four bytes of a condition say together
-abbrev pub condition-effects : List ℕ → Effects
+unfoldable pub condition-effects : List ℕ → Effects
 condition-effects c =
     together
     (together (byte-effects (getD c 0 0)) (byte-effects (getD c 1 0)))
@@ -46,5 +46,8 @@ abbrev pub bars-volume : ℕ → Bool
 bars-volume b = is-no (byte-effects b .volume)
 
 -- a condition counts for volume if no byte of it says No to volume
+abbrev pub none-bars : List ℕ → Bool
+none-bars c = not ((bars-volume (getD c 0 0) || bars-volume (getD c 1 0)) || (bars-volume (getD c 2 0) || bars-volume (getD c 3 0)))
+
 abbrev pub counted : List ℕ → Bool
-counted c = not (bars-volume (getD c 0 0) || bars-volume (getD c 1 0) || bars-volume (getD c 2 0) || bars-volume (getD c 3 0))
+counted c = not (is-no (condition-effects c .volume))

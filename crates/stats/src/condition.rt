@@ -1,6 +1,7 @@
 // A sale condition: four bytes, which together say to each statistic what the strongest of them says.
+ghost use mathlib.Core.Bool.{not};
 ghost use mathlib.Core.Path.{_≡_};
-ghost use Rattle.stats.specs.Condition.{beats, together, condition-effects, counted};
+ghost use Rattle.stats.specs.Condition.{beats, together, condition-effects, counted, is-no, none-bars};
 use crate::matrix::Effects;
 use crate::matrix::Says;
 use crate::matrix::byte_effects;
@@ -32,7 +33,8 @@ fn combined(a: Effects, b: Effects) -> Effects
 
 // What the four bytes of a condition say together.
 pub fn effects(condition: [u8; 4]) -> Effects
-    ensures { λ r. ⌜ r ≡ condition-effects condition ⌝ }
+    ensures value { λ r. ⌜ r ≡ condition-effects condition ⌝ }
+    ensures volume { λ r. ⌜ not (is-no (r .volume)) ≡ none-bars condition ⌝ }
 {
     let [a, b, c, d] = condition;
     let front = combined(byte_effects(a), byte_effects(b));
