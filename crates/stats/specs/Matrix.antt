@@ -11,8 +11,8 @@ use Rattle.stats.specs.declared.matrix.Says.{Says}
 use Rattle.stats.specs.declared.matrix.Says.the-variants.{Yes, First, No}
 
 -- to the consolidated high and low, the consolidated last, the market center's high and low, its last, and the volume
-abbrev pub says : Says → Says → Says → Says → Says → Effects
-says a b c d e = record {
+abbrev pub in-columns : Says → Says → Says → Says → Says → Effects
+in-columns a b c d e = record {
   «consolidated_high_low» = a;
   «consolidated_last» = b;
   «center_high_low» = c;
@@ -30,13 +30,13 @@ bytes-in CorrectedClose = codes "9"
 bytes-in Silent = codes "E8"
 
 abbrev pub effects-in : Row → Effects
-effects-in Regular = says Yes Yes Yes Yes Yes
-effects-in FirstLast = says Yes First Yes First Yes
-effects-in VolumeOnly = says No No No No Yes
-effects-in OfficialClose = says No No Yes Yes No
-effects-in OfficialOpen = says No No Yes No No
-effects-in CorrectedClose = says Yes Yes No No No
-effects-in Silent = says No No No No No
+effects-in Regular = in-columns Yes Yes Yes Yes Yes
+effects-in FirstLast = in-columns Yes First Yes First Yes
+effects-in VolumeOnly = in-columns No No No No Yes
+effects-in OfficialClose = in-columns No No Yes Yes No
+effects-in OfficialOpen = in-columns No No Yes No No
+effects-in CorrectedClose = in-columns Yes Yes No No No
+effects-in Silent = in-columns No No No No No
 
 abbrev pub rows : List Row
 rows = Regular ∷ FirstLast ∷ VolumeOnly ∷ OfficialClose ∷ OfficialOpen ∷ CorrectedClose ∷ Silent ∷ []

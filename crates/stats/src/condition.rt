@@ -1,7 +1,8 @@
 // A sale condition: four bytes, which together say to each statistic what the strongest of them says.
 ghost use mathlib.Core.Bool.{not};
 ghost use mathlib.Core.Path.{_≡_};
-ghost use Rattle.stats.specs.Condition.{beats, together, condition-effects, counted, is-no, none-bars};
+ghost use lib.ListN.{getD};
+ghost use Rattle.stats.specs.Condition.{beats, together, four-effects, condition-effects, counted, is-no, none-bars};
 use crate::matrix::Effects;
 use crate::matrix::Says;
 use crate::matrix::byte_effects;
@@ -31,22 +32,31 @@ fn combined(a: Effects, b: Effects) -> Effects
     }
 }
 
-// What the four bytes of a condition say together.
-pub fn effects(condition: [u8; 4]) -> Effects
-    ensures value { λ r. ⌜ r ≡ condition-effects condition ⌝ }
-    ensures volume { λ r. ⌜ not (is-no (r .volume)) ≡ none-bars condition ⌝ }
+// What four bytes say together. They count for volume unless one of them says No to it.
+fn four_effects(a: u8, b: u8, c: u8, d: u8) -> Effects
+    ensures value { λ r. ⌜ r ≡ four-effects a b c d ⌝ }
+    ensures volume { λ r. ⌜ not (is-no (r .volume)) ≡ none-bars a b c d ⌝ }
 {
-    let [a, b, c, d] = condition;
     let front = combined(byte_effects(a), byte_effects(b));
     let back = combined(byte_effects(c), byte_effects(d));
     combined(front, back)
 }
 
+// What the four bytes of a condition say together.
+pub fn effects(condition: [u8; 4]) -> Effects
+    ensures { λ r. ⌜ r ≡ condition-effects condition ⌝ }
+{
+    let [a, b, c, d] = condition;
+    four_effects(a, b, c, d)
+}
+
 // Whether a report with this condition counts for volume: none of its bytes says No to it.
 pub fn counts(condition: [u8; 4]) -> bool
-    ensures { λ r. ⌜ r ≡ counted condition ⌝ }
+    ensures value { λ r. ⌜ r ≡ counted condition ⌝ }
+    ensures bytes { λ r. ⌜ r ≡ none-bars (getD condition 0 0) (getD condition 1 0) (getD condition 2 0) (getD condition 3 0) ⌝ }
 {
-    match effects(condition).volume {
+    let [a, b, c, d] = condition;
+    match four_effects(a, b, c, d).volume {
         Says::Yes | Says::First => true,
         Says::No => false,
     }

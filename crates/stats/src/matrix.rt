@@ -1,6 +1,6 @@
 // The sale condition matrix: to which statistics a trade report with a given condition byte counts.
 ghost use mathlib.Core.Path.{_≡_};
-ghost use Rattle.stats.specs.Matrix.{row-of, row-lettered, says, effects-in, byte-effects};
+ghost use Rattle.stats.specs.Matrix.{row-of, row-lettered, in-columns, effects-in, byte-effects};
 
 // What a condition says to one of the statistics. `First` counts only where nothing stands yet.
 #[derive(Clone, Copy, PartialEq, Eq)]
@@ -87,7 +87,7 @@ fn columns(
     center_last: Says,
     volume: Says,
 ) -> Effects
-    ensures { λ r. ⌜ r ≡ says «consolidated_high_low» «consolidated_last» «center_high_low» «center_last» volume ⌝ }
+    ensures { λ r. ⌜ r ≡ in-columns «consolidated_high_low» «consolidated_last» «center_high_low» «center_last» volume ⌝ }
 {
     Effects {
         consolidated_high_low,

@@ -8,7 +8,8 @@ pub struct Sale {
     pub volume: u32,
 }
 
-// A sale with the line that reported it. Each market center has a line to the processor, by number.
+// A sale with the line that reported it. Each market center has a line to the processor, with a number from 0 to 15;
+// a sheet keeps the number that it is given.
 #[derive(Clone, Copy)]
 pub struct LineSale {
     pub line: u8,

@@ -13,4 +13,8 @@ pub struct Sheet<Last> {
     ghost sound: { spans high low ≡ true },
 }
 
+// A report is refused, since the volume would pass what a sheet can hold.
+#[derive(Clone, Copy, PartialEq, Eq, Debug)]
+pub struct VolumeFull;
+
 pub mod notes;

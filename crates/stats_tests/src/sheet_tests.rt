@@ -10,9 +10,9 @@ use stats::sale::LastSalePartialEq;
 use stats::sale::LineSale;
 use stats::sale::Sale;
 use stats::sheet::Sheet;
-use stats::sheet::notes::VolumeFull;
-use stats::sheet::notes::VolumeFullDebug;
-use stats::sheet::notes::VolumeFullPartialEq;
+use stats::sheet::VolumeFull;
+use stats::sheet::VolumeFullDebug;
+use stats::sheet::VolumeFullPartialEq;
 use std::mem::size_of;
 use std::test::*;
 

@@ -16,10 +16,7 @@ use crate::entry::Entry;
 use crate::matrix::Says;
 use crate::plain_sheet::PlainSheet;
 use crate::sheet::Sheet;
-
-// The volume would pass what a sheet can hold.
-#[derive(Clone, Copy, PartialEq, Eq, Debug)]
-pub struct VolumeFull;
+use crate::sheet::VolumeFull;
 
 // Whether there are both a high and a low, the low not above the high, or neither.
 fn is_span(high: Option<u64>, low: Option<u64>) -> bool
@@ -121,6 +118,7 @@ impl<Last: Copy> Sheet<Last> {
         self.put(report.entry())
     }
 
+    // The same with what the report enters. The volume comes first, so that a refusal leaves the sheet as it was.
     fn put(&mut self, entry: Entry<Last>) -> Result<(), VolumeFull>
         ensures test { λ r. ⌜ isOk r ≡ ltb (now (self .entry) .volume + entry .adds) (2 ^ 64) ⌝ }
         ensures after { λ r. ⌜ plain-of (now (self .exit)) ≡ cond (isOk r) (noted (plain-of (now (self .entry))) entry) (plain-of (now (self .entry))) ⌝ }
