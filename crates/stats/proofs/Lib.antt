@@ -1,0 +1,4 @@
+pub mod Joins
+pub mod Noting
+pub mod Slices
+pub mod Table

@@ -1,0 +1,8 @@
+pub mod Matrix
+pub mod Condition
+pub mod Entries
+pub mod Spans
+pub mod Plain
+pub mod Sheets
+pub mod Reports
+pub mod Records
