@@ -1,7 +1,9 @@
 // Reads a recording of frames and prints what each one holds.
+mod board;
 mod recording;
 mod report_text;
 
+use board::Board;
 use recording::RECORDING;
 use report_text::print_report;
 use std::env;
@@ -21,13 +23,19 @@ fn rule(row: HeaderRow) -> &'static str {
     }
 }
 
-// Prints one frame, and says whether it is a trade report.
-fn print_frame(rt: &LibcRuntime, number: u64, frame: &[u8]) -> Result<bool, AnyError> {
+// Prints one frame, enters it on the board if it is a trade report, and says whether it is.
+fn print_frame(
+    rt: &LibcRuntime,
+    number: u64,
+    frame: &[u8],
+    board: &mut Board,
+) -> Result<bool, AnyError> {
     let size = frame.len();
     match TradeReport::read(frame) {
         Ok(report) => {
             println!(rt, "frame {number}, {size} bytes: regular trade report")?;
             print_report(rt, &report, frame)?;
+            board.note(&report)?;
             Ok(true)
         }
         Err(row) => {
@@ -43,6 +51,7 @@ fn print_frame(rt: &LibcRuntime, number: u64, frame: &[u8]) -> Result<bool, AnyE
 }
 
 fn print_recording(rt: &LibcRuntime, bytes: &[u8]) -> Result<(), AnyError> {
+    let mut board = Board::new(rt.alloc());
     let mut at = 0;
     let mut frames: u64 = 0;
     let mut reports: u64 = 0;
@@ -50,7 +59,7 @@ fn print_recording(rt: &LibcRuntime, bytes: &[u8]) -> Result<(), AnyError> {
         match front_frame(&bytes[at..]) {
             Ok(frame) => {
                 frames = frames.saturating_add(1);
-                if print_frame(rt, frames, frame)? {
+                if print_frame(rt, frames, frame, &mut board)? {
                     reports = reports.saturating_add(1);
                 }
                 at += 2 + frame.len();
@@ -66,7 +75,7 @@ fn print_recording(rt: &LibcRuntime, bytes: &[u8]) -> Result<(), AnyError> {
         }
     }
     println!(rt, "{frames} frames, {reports} trade reports")?;
-    Ok(())
+    board.print(rt)
 }
 
 fn main(rt: LibcRuntime) -> Result<(), AnyError> {

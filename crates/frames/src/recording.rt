@@ -1,8 +1,8 @@
-// A recording to try the program on: nine frames as a line might send them. Four are good reports, one carries the largest
+// A recording to try the program on: ten frames as two lines might send them. Five are good reports, one carries the largest
 // number in every field, and the others each fail a row of the header (a byte short, another kind, another version, empty).
 // One source line for each field: the length in front of the frame, version, kind and originator, timestamp1, feed
 // sequence, participant token, timestamp2, symbol, trade id, exempt flag and sale condition, seller days, side, price, volume.
-pub const RECORDING: [u8; 593] = *b"\
+pub const RECORDING: [u8; 667] = *b"\
     \x00\x48\
     1TEQU\
     \x18\x79\x20\x42\xb6\xdb\x10\x00\
@@ -42,6 +42,19 @@ pub const RECORDING: [u8; 593] = *b"\
     X\
     \x00\x00\x00\x00\x0e\xf9\xc5\x50\
     \x00\x00\x04\xb0\
+    \x00\x48\
+    1TEJU\
+    \x18\x79\x20\x43\x69\xab\x6e\x01\
+    \x00\x00\x00\x00\x00\x00\x00\x01\
+    \x00\x00\x00\x00\x00\x00\x00\x00\
+    \x18\x79\x20\x43\x69\xab\x6e\x00\
+    ABC        \
+    \x00\x00\x00\x01\
+    \x20@  P\
+    \x00\x00\
+    B\
+    \x00\x00\x00\x00\x00\xa1\xbe\x40\
+    \x00\x00\x01\x2c\
     \x00\x48\
     1TEQU\
     \x18\x79\x20\x43\xa5\x46\x38\x00\

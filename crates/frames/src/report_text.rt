@@ -1,5 +1,7 @@
 // A trade report as text, a line for each field.
 use show::quoted::quoted;
+use stats::condition::effects;
+use stats::matrix::Says;
 use std::error::AnyError;
 use text::symbol::unpadded;
 use wire::trade_report::TradeReport;
@@ -34,6 +36,36 @@ fn print_trade(rt: &LibcRuntime, report: &TradeReport) -> Result<(), AnyError> {
     print_number(rt, "volume", report.volume as u64)
 }
 
+fn says_text(says: Says) -> &'static str {
+    match says {
+        Says::Yes => "Yes",
+        Says::First => "First",
+        Says::No => "No",
+    }
+}
+
+// What the sale condition says to the sheets.
+fn print_effects(rt: &LibcRuntime, condition: [u8; 4]) -> Result<(), AnyError> {
+    let said = effects(condition);
+    let high_low = says_text(said.consolidated_high_low);
+    let last = says_text(said.consolidated_last);
+    println!(
+        rt,
+        "  {:<18}high/low {high_low}, last {last}",
+        "consolidated"
+    )?;
+    let high_low = says_text(said.center_high_low);
+    let last = says_text(said.center_last);
+    println!(
+        rt,
+        "  {:<18}high/low {high_low}, last {last}",
+        "market center"
+    )?;
+    let counts = says_text(said.volume);
+    println!(rt, "  {:<18}{counts}", "counts for volume")?;
+    Ok(())
+}
+
 // Prints the fields, writes the report again, and says whether that gives the frame.
 pub(crate) fn print_report(
     rt: &LibcRuntime,
@@ -42,6 +74,7 @@ pub(crate) fn print_report(
 ) -> Result<(), AnyError> {
     print_header(rt, report)?;
     print_trade(rt, report)?;
+    print_effects(rt, report.condition)?;
     let mut again = [0; 72];
     let same = report.write(&mut again).is_ok() && &again[..] == frame;
     let verdict = if same {
