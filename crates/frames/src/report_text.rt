@@ -1,7 +1,7 @@
 // A trade report as text, a line for each field.
+use conditions::condition::effects;
+use conditions::matrix::Says;
 use show::quoted::quoted;
-use stats::condition::effects;
-use stats::matrix::Says;
 use std::error::AnyError;
 use text::symbol::unpadded;
 use wire::trade_report::TradeReport;

@@ -1,4 +1,3 @@
 pub mod Joins
 pub mod Noting
 pub mod Slices
-pub mod Table

@@ -4,11 +4,11 @@ use Prim.Native.Nat.{ℕ}
 use Rattle.std.specs.declared.option.Option.{Option}
 use Rattle.std.specs.declared.option.Option.the-variants.{Some, None}
 use Rattle.stats.specs.declared.entry.Entry.{Entry}
-use Rattle.stats.specs.declared.matrix.Says.{Says}
+use Rattle.conditions.specs.declared.matrix.Says.{Says}
 use Rattle.stats.specs.declared.sale.LastSale.{LastSale}
 use Rattle.stats.specs.declared.sale.LineSale.{LineSale}
 use Rattle.stats.specs.declared.sale.Sale.{Sale}
-use Rattle.stats.specs.Condition.{condition-effects, counted, is-yes}
+use Rattle.conditions.specs.Condition.{condition-effects, counted, is-yes}
 
 -- high and low span the prices of the reports whose condition says Yes to them, whether they count for volume or not
 abbrev pub spanned-by : Says → ℕ → Option ℕ

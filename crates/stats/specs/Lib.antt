@@ -1,5 +1,3 @@
-pub mod Matrix
-pub mod Condition
 pub mod Entries
 pub mod Spans
 pub mod Plain

@@ -7,8 +7,8 @@ use Rattle.std.specs.Slices.{Shuffled}
 use Rattle.std.specs.declared.option.Option.{Option}
 use Rattle.std.specs.declared.option.Option.the-variants.{Some, None}
 use Rattle.stats.specs.declared.entry.Entry.{Entry}
-use Rattle.stats.specs.declared.matrix.Says.{Says}
-use Rattle.stats.specs.declared.matrix.Says.the-variants.{Yes, First, No}
+use Rattle.conditions.specs.declared.matrix.Says.{Says}
+use Rattle.conditions.specs.declared.matrix.Says.the-variants.{Yes, First, No}
 use Rattle.stats.specs.declared.plain_sheet.PlainSheet.{PlainSheet}
 use Rattle.stats.specs.Plain.{higher, lower, or-else}
 

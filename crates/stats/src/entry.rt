@@ -2,12 +2,12 @@
 ghost use mathlib.Core.Path.{_≡_};
 ghost use Rattle.stats.specs.Entries.{center-entry, consolidated-entry, spanned-by, added-by};
 ghost use Rattle.stats.specs.declared.entry.Entry.{Entry};
-use crate::condition::counts;
-use crate::condition::effects;
-use crate::matrix::Says;
 use crate::sale::LastSale;
 use crate::sale::LineSale;
 use crate::sale::Sale;
+use conditions::condition::counts;
+use conditions::condition::effects;
+use conditions::matrix::Says;
 
 // What one sale enters on a sheet. `Last` is what that kind of sheet holds of the last sale.
 #[derive(Clone, Copy)]

@@ -1,8 +1,6 @@
-// What a securities information processor keeps of trade reports: the sale condition matrix, and the statistics of a
-// security (high, low, last, volume), for all market centers together and for each of them alone.
-pub mod condition;
+// The statistics of a security (high, low, last, volume) that a securities information processor keeps of trade reports, for
+// all market centers together and for each of them alone.
 pub mod entry;
-pub mod matrix;
 pub mod plain_sheet;
 pub mod record;
 pub mod sale;

@@ -1,11 +1,11 @@
 // The matrix, byte by byte, and the precedence among the bytes of a condition.
-use stats::condition::counts;
-use stats::condition::effects;
-use stats::matrix::Effects;
-use stats::matrix::EffectsPartialEq;
-use stats::matrix::Says;
-use stats::matrix::SaysPartialEq;
-use stats::matrix::byte_effects;
+use conditions::condition::counts;
+use conditions::condition::effects;
+use conditions::matrix::Effects;
+use conditions::matrix::EffectsPartialEq;
+use conditions::matrix::Says;
+use conditions::matrix::SaysPartialEq;
+use conditions::matrix::byte_effects;
 use std::test::*;
 
 // The columns in the order of the matrix: consolidated high/low and last, market center high/low and last, volume.

@@ -13,10 +13,10 @@ ghost use Rattle.stats.specs.Spans.{spans};
 ghost use Rattle.stats.specs.Sheets.{plain-of};
 use crate::entry::Enters;
 use crate::entry::Entry;
-use crate::matrix::Says;
 use crate::plain_sheet::PlainSheet;
 use crate::sheet::Sheet;
 use crate::sheet::VolumeFull;
+use conditions::matrix::Says;
 
 // Whether there are both a high and a low, the low not above the high, or neither.
 fn is_span(high: Option<u64>, low: Option<u64>) -> bool

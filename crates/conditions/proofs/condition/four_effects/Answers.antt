@@ -2,12 +2,12 @@ use mathlib.Core.Bool.{not, _||_}
 use mathlib.Core.Path.{_≡_, refl, ap, _∙_}
 use Prim.Native.Nat.{ℕ}
 use borrow.Author.Needs.{needs}
-use Rattle.stats.specs.declared.matrix.Effects.{Effects}
-use Rattle.stats.specs.declared.matrix.Says.{Says}
-use Rattle.stats.specs.declared.matrix.Says.the-variants.{Yes, First, No}
-use Rattle.stats.specs.Condition.{beats, is-no, four-effects}
-use Rattle.stats.specs.Matrix.{byte-effects}
-use Rattle.stats.proofs.condition.four_effects.Needs as need
+use Rattle.conditions.specs.declared.matrix.Effects.{Effects}
+use Rattle.conditions.specs.declared.matrix.Says.{Says}
+use Rattle.conditions.specs.declared.matrix.Says.the-variants.{Yes, First, No}
+use Rattle.conditions.specs.Condition.{beats, is-no, four-effects}
+use Rattle.conditions.specs.Matrix.{byte-effects}
+use Rattle.conditions.proofs.condition.four_effects.Needs as need
 
 no-of-two : (a b : Says) → is-no (beats a b) ≡ (is-no a || is-no b)
 no-of-two Yes b = refl

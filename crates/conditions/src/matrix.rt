@@ -1,6 +1,6 @@
 // The sale condition matrix: to which statistics a trade report with a given condition byte counts.
 ghost use mathlib.Core.Path.{_≡_};
-ghost use Rattle.stats.specs.Matrix.{row-of, row-lettered, in-columns, effects-in, byte-effects};
+ghost use Rattle.conditions.specs.Matrix.{row-of, row-lettered, in-columns, effects-in, byte-effects};
 
 // What a condition says to one of the statistics. `First` counts only where nothing stands yet.
 #[derive(Clone, Copy, PartialEq, Eq)]

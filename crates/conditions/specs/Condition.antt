@@ -3,10 +3,10 @@ use mathlib.Core.Bool.{Bool, true, false, not, _||_}
 use mathlib.Core.List.{List}
 use Prim.Native.Nat.{ℕ}
 use lib.ListN.{getD}
-use Rattle.stats.specs.declared.matrix.Effects.{Effects}
-use Rattle.stats.specs.declared.matrix.Says.{Says}
-use Rattle.stats.specs.declared.matrix.Says.the-variants.{Yes, First, No}
-use Rattle.stats.specs.Matrix.{in-columns, byte-effects}
+use Rattle.conditions.specs.declared.matrix.Effects.{Effects}
+use Rattle.conditions.specs.declared.matrix.Says.{Says}
+use Rattle.conditions.specs.declared.matrix.Says.the-variants.{Yes, First, No}
+use Rattle.conditions.specs.Matrix.{in-columns, byte-effects}
 
 -- No beats First, and First beats Yes
 abbrev pub beats : Says → Says → Says

@@ -4,11 +4,11 @@ use mathlib.Core.List.{List, [], _∷_}
 use Prim.Native.Nat.{ℕ}
 use lib.Chars.{codes}
 use lib.Dec.{eqb}
-use Rattle.stats.specs.declared.matrix.Effects.{Effects}
-use Rattle.stats.specs.declared.matrix.Row.{Row}
-use Rattle.stats.specs.declared.matrix.Row.the-variants.{Regular, FirstLast, VolumeOnly, OfficialClose, OfficialOpen, CorrectedClose, Silent}
-use Rattle.stats.specs.declared.matrix.Says.{Says}
-use Rattle.stats.specs.declared.matrix.Says.the-variants.{Yes, First, No}
+use Rattle.conditions.specs.declared.matrix.Effects.{Effects}
+use Rattle.conditions.specs.declared.matrix.Row.{Row}
+use Rattle.conditions.specs.declared.matrix.Row.the-variants.{Regular, FirstLast, VolumeOnly, OfficialClose, OfficialOpen, CorrectedClose, Silent}
+use Rattle.conditions.specs.declared.matrix.Says.{Says}
+use Rattle.conditions.specs.declared.matrix.Says.the-variants.{Yes, First, No}
 
 -- to the consolidated high and low, the consolidated last, the market center's high and low, its last, and the volume
 abbrev pub in-columns : Says → Says → Says → Says → Says → Effects

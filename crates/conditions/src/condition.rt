@@ -2,7 +2,7 @@
 ghost use mathlib.Core.Bool.{not};
 ghost use mathlib.Core.Path.{_≡_};
 ghost use lib.ListN.{getD};
-ghost use Rattle.stats.specs.Condition.{beats, together, four-effects, condition-effects, counted, is-no, none-bars};
+ghost use Rattle.conditions.specs.Condition.{beats, together, four-effects, condition-effects, counted, is-no, none-bars};
 use crate::matrix::Effects;
 use crate::matrix::Says;
 use crate::matrix::byte_effects;

@@ -3,11 +3,11 @@ use mathlib.Core.List.{List, [], _∷_}
 use Prim.Native.Nat.{ℕ}
 use lib.Chars.{codes}
 use borrow.Author.Needs.{needs}
-use Rattle.stats.specs.Matrix.{row-of, row-lettered}
-use Rattle.stats.specs.declared.matrix.Row.{Row}
-use Rattle.stats.specs.declared.matrix.Row.the-variants.{Regular, FirstLast, VolumeOnly, OfficialClose, OfficialOpen, CorrectedClose, Silent}
-use Rattle.stats.proofs.Table.{by-table}
-use Rattle.stats.proofs.matrix.row_of.Needs as need
+use Rattle.conditions.specs.Matrix.{row-of, row-lettered}
+use Rattle.conditions.specs.declared.matrix.Row.{Row}
+use Rattle.conditions.specs.declared.matrix.Row.the-variants.{Regular, FirstLast, VolumeOnly, OfficialClose, OfficialOpen, CorrectedClose, Silent}
+use Rattle.conditions.proofs.Table.{by-table}
+use Rattle.conditions.proofs.matrix.row_of.Needs as need
 
 abbrev letter : Row → ℕ
 letter Regular = 82

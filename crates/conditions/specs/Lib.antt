@@ -1,0 +1,2 @@
+pub mod Condition
+pub mod Matrix
