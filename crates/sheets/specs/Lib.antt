@@ -1,0 +1,5 @@
+pub mod Text
+pub mod Cause
+pub mod Layers
+pub mod Reading
+pub mod Told
