@@ -1,2 +1,3 @@
 pub mod Cuts
 pub mod Sofar
+pub mod Steps

@@ -1,5 +1,8 @@
 pub mod Text
 pub mod Cause
 pub mod Layers
+pub mod Forms
 pub mod Reading
 pub mod Told
+pub mod ListRows
+pub mod BookRows

@@ -1,6 +1,10 @@
+pub mod book_row;
+pub mod bucket;
 pub mod cause;
 pub mod fault;
+pub mod field_layer;
 pub mod line_layer;
+pub mod list_row;
 pub mod reader;
 pub mod row;
 pub mod text;

@@ -3,6 +3,7 @@ ghost use mathlib.Core.Path.{_≡_};
 ghost use Prim.Native.Nat.{_≤_};
 ghost use lib.Dec.{ltb};
 ghost use lib.ListN.{length, take};
+ghost use Rattle.std.specs.shelf.Text.{sameBytes};
 ghost use Rattle.sheets.specs.Text.{fieldCount, fieldOf, firstPart, has, onlyByte, past};
 
 // How many bytes stand before the first separator.
@@ -78,4 +79,10 @@ pub fn only_byte(part: &[u8]) -> Option<u8>
         [byte] => Some(*byte),
         _ => None,
     }
+}
+
+pub fn is_same(one: &[u8], other: &[u8]) -> bool
+    ensures { λ r. ⌜ r ≡ sameBytes (now (one .entry)) (now (other .entry)) ⌝ }
+{
+    one == other
 }
