@@ -1,3 +1,7 @@
+pub mod Commas
 pub mod Cuts
+pub mod Formed
+pub mod Markets
+pub mod Passed
 pub mod Sofar
 pub mod Steps

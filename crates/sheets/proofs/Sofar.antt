@@ -31,6 +31,7 @@ pub record Sofar {Row : Type 0} (rules : Rules Row) (text rest : List ℕ) (befo
 
 -- at an ended line the reading goes by what that line adds
 line-first : {Row : Type 0} (rules : Rules Row) (slots : ℕ) (seen : List Row) (rest : List ℕ) (r : Result Row SheetFault) → has 10 rest ≡ true → placed rules slots seen (rowIn rules (nextLine rest)) ≡ r → reading rules slots seen (parts 10 rest) ≡ step r seen (λ rows. reading rules slots rows (parts 10 (past 10 rest)))
+unfolding reading
 line-first rules slots seen rest r h e =
     let line = firstPart 10 rest in
     let more = parts-some 10 (past 10 rest) in
@@ -46,6 +47,7 @@ tail-left rules seen [] h = absurd (omega arith)
 tail-left rules seen (b ∷ bs) h = refl
 
 stops : {Row : Type 0} (rules : Rules Row) (slots : ℕ) (seen : List Row) (rest : List ℕ) (f : SheetFault) (b : Bool) → has 10 rest ≡ b → 0 < length rest → placed rules slots seen (rowIn rules (nextLine rest)) ≡ Err f → reading rules slots seen (parts 10 rest) ≡ record { rows = seen; fault = Some f }
+unfolding reading
 stops rules slots seen rest f true h some e = line-first rules slots seen rest (Err f) h e
 stops {Row} rules slots seen rest f false h some e =
     let none : _≡_ {A = Result Row SheetFault} (Err (Field (Line Unended))) (Err f) =
@@ -94,6 +96,7 @@ ends-at {Row} {rules} {text} {rest} {before} {table} {n} s f some slots seen p q
 
 -- where no byte is left
 pub ends-whole : {Row : Type 0} {rules : Rules Row} {text rest : List ℕ} {before table : List Row} {n : ℕ} → Sofar rules text rest before table n → length rest ≡ 0 → (b : Bool) → rules .whole (take n table) ≡ b → Ends rules text before table n (cond b None (Some Incomplete))
+unfolding reading
 ends-whole {Row} {rules} {text} {rest} {before} {table} {n} s e b w =
     ends s (cond b None (Some Incomplete))
     (ap (λ u. reading rules (length before) (take n table) (parts 10 u)) (nil-from-length rest e)

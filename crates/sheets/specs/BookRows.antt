@@ -1,6 +1,7 @@
 -- The book sheet: rows `E,flag`, `D,side`, `C,bucket,value` and `N,flag,value`.
 use mathlib.Core.Bool.{Bool, true, false, cond, _||_}
 use mathlib.Core.List.{List, [], _∷_}
+use mathlib.Core.Path.{_≡_}
 use Prim.Native.Nat.{ℕ}
 use lib.Dec.{eqb, leb}
 use lib.ListN.{length}
@@ -50,6 +51,10 @@ fieldsOf (Flag flag) = 69 ∷ flag ∷ 0 ∷ []
 fieldsOf (Side side) = 68 ∷ side ∷ 0 ∷ []
 fieldsOf (Value bucket value) = 67 ∷ digitOf bucket ∷ value ∷ []
 fieldsOf (Barred flag value) = 78 ∷ flag ∷ value ∷ []
+
+-- a row that names no comma (44), which parts the fields of what is written of a report
+abbrev pub CommaFree : BookRow → Type 0
+CommaFree row = has 44 (fieldsOf row) ≡ false
 
 abbrev pub sameRow : BookRow → BookRow → Bool
 sameRow one other = sameBytes (fieldsOf one) (fieldsOf other)

@@ -6,3 +6,4 @@ pub mod Reading
 pub mod Told
 pub mod ListRows
 pub mod BookRows
+pub mod Market

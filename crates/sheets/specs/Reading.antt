@@ -28,7 +28,7 @@ step (Ok row) seen next = next (seen ++ (row ∷ []))
 step (Err fault) seen next = record { rows = seen; fault = Some fault }
 
 -- the parts of a text at its bytes 10 are its lines, and then what stands past the last
-abbrev pub reading : {Row : Type 0} → Rules Row → ℕ → List Row → List (List ℕ) → Outcome Row
+unfoldable pub reading : {Row : Type 0} → Rules Row → ℕ → List Row → List (List ℕ) → Outcome Row
 reading rules slots seen [] = ended rules seen []
 reading rules slots seen (tail ∷ []) = ended rules seen tail
 reading rules slots seen (line ∷ next ∷ more) =

@@ -1,10 +1,12 @@
 pub mod book_row;
+pub mod book_sheet;
 pub mod bucket;
 pub mod cause;
 pub mod fault;
 pub mod field_layer;
 pub mod line_layer;
 pub mod list_row;
+pub mod list_sheet;
 pub mod reader;
 pub mod row;
 pub mod text;

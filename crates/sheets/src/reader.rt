@@ -1,7 +1,7 @@
 // Reads a sheet of any kind into a caller's table.
 ghost use mathlib.Core.Path.{_≡_};
 ghost use mathlib.Core.Bool.{true};
-ghost use Prim.Native.Nat.{_<_};
+ghost use Prim.Native.Nat.{_<_, _≤_};
 ghost use lib.ListN.{length};
 ghost use Rattle.std.specs.Vec.{made};
 ghost use Rattle.sheets.specs.Text.{has};
@@ -43,6 +43,7 @@ fn next_placed<R: SheetRow>(rest: &[u8], seen: &[R], slots: usize) -> Result<R, 
 pub fn read<R: SheetRow>(text: &[u8], table: &mut [R]) -> Result<usize, Fault>
     ensures answer { λ r. ⌜ r ≡ answerOf (sheetOf (R·SheetRow .rules) (length (now (table .entry))) (now (text .entry))) ⌝ }
     ensures rows { λ _. ⌜ now (table .exit) ≡ tableAfter (sheetOf (R·SheetRow .rules) (length (now (table .entry))) (now (text .entry))) (now (table .entry)) ⌝ }
+    ensures within { λ r. ⌜ made r (λ n. n ≤ length (now (table .entry))) ⌝ }
 {
     let mut rest = text;
     let mut count = 0;

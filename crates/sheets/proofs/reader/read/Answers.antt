@@ -38,7 +38,7 @@ returns-in-Err g c =
     let z : n - 0 ≡ n = omega arith in
     let some : 0 < length rest = omega (arith, eqb-false (length rest) 0 (sym (c .loop-rest-test .ensures tt))) in
     let e = ends-at s (c .in-Err .fault) some (length table) (take (n - 0) table) (s .long) (ap (λ j. take j table) z) (sym (c .in-Err .ensures tt .value)) in
-    record { answer = ap (λ t. Err t) (c .at-line .ensures) ∙ e .answer; rows = e .rows }
+    record { answer = ap (λ t. Err t) (c .at-line .ensures) ∙ e .answer; rows = e .rows; within = tt }
 
 pub add-count-then-not-are-whole : need.add-count-then-not-are-whole
 add-count-then-not-are-whole g c = omega arith
@@ -51,7 +51,7 @@ returns-then-not-are-whole g c =
     let z : n ≡ n - 0 = omega arith in
     let none : length rest ≡ 0 = eqb-true (length rest) 0 (sym (c .loop-rest-test .ensures tt)) in
     let e = ends-whole (c .loop-rest .inv) none false (ap (λ j. g .R·SheetRow .rules .whole (take j table)) z ∙ sym (c .if-not-are-whole .ensures tt)) in
-    record { answer = ap (λ t. Err t) (c .at-line-then-not-are-whole .ensures) ∙ e .answer; rows = e .rows }
+    record { answer = ap (λ t. Err t) (c .at-line-then-not-are-whole .ensures) ∙ e .answer; rows = e .rows; within = tt }
 
 pub returns : need.returns
 returns g c =
@@ -61,4 +61,4 @@ returns g c =
     let z : n ≡ n - 0 = omega arith in
     let none : length rest ≡ 0 = eqb-true (length rest) 0 (sym (c .loop-rest-test .ensures tt)) in
     let e = ends-whole (c .loop-rest .inv) none true (ap (λ j. g .R·SheetRow .rules .whole (take j table)) z ∙ sym (c .if-not-are-whole .ensures tt)) in
-    record { answer = e .answer; rows = e .rows }
+    record { answer = e .answer; rows = e .rows; within = omega (arith, c .loop-rest .inv .within, c .loop-rest .inv .long) }

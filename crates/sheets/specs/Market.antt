@@ -1,0 +1,46 @@
+-- The market of a practice day: its securities and its lines.
+use mathlib.Core.Bool.{Bool, true, false, not, _&&_}
+use mathlib.Core.List.{List, [], _∷_}
+use mathlib.Core.Path.{_≡_}
+use Prim.Native.Nat.{ℕ, zero, suc, _≤_}
+use lib.Dec.{eqb}
+use lib.ListN.{length}
+use Rattle.std.specs.declared.option.Option.{Option}
+use Rattle.std.specs.declared.option.Option.the-variants.{Some, None}
+use Rattle.sheets.specs.declared.list_row.ListRow.{ListRow}
+use Rattle.sheets.specs.ListRows.{ascends, among, securities, lines}
+
+-- each symbol stands before the next
+abbrev pub ascendFrom : Option (List ℕ) → List (List ℕ) → Bool
+ascendFrom before [] = true
+ascendFrom before (symbol ∷ symbols) = ascends before symbol && ascendFrom (Some symbol) symbols
+
+abbrev pub distinct : List (List ℕ) → Bool
+distinct [] = true
+distinct (text ∷ texts) = not (among text texts) && distinct texts
+
+-- every text has so many bytes
+abbrev pub allLong : ℕ → List (List ℕ) → Bool
+allLong size [] = true
+allLong size (text ∷ texts) = eqb (length text) size && allLong size texts
+
+-- the symbols of a market's securities and the originators of its lines
+pub record Market (symbols originators : List (List ℕ)) : Type 0 where
+  pub someSymbol : 1 ≤ length symbols
+  pub fewSymbols : length symbols ≤ 256
+  pub ascending : ascendFrom None symbols ≡ true
+  pub elevenBytes : allLong 11 symbols ≡ true
+  pub someOriginator : 1 ≤ length originators
+  pub fewOriginators : length originators ≤ 16
+  pub noneTwice : distinct originators ≡ true
+  pub twoBytes : allLong 2 originators ≡ true
+
+-- rows that are a market
+abbrev pub MarketRows : List ListRow → Type 0
+MarketRows rows = Market (securities rows) (lines rows)
+
+-- what stands at an index, if anything does
+abbrev pub atIndex : List (List ℕ) → ℕ → Option (List ℕ)
+atIndex [] index = None
+atIndex (text ∷ texts) zero = Some text
+atIndex (text ∷ texts) (suc index) = atIndex texts index
