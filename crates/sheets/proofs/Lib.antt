@@ -1,5 +1,6 @@
 pub mod Commas
 pub mod Cuts
+pub mod Filling
 pub mod Formed
 pub mod Markets
 pub mod Passed

@@ -25,7 +25,7 @@ use Rattle.sheets.specs.Text.{fieldOf, onlyByte}
 use Rattle.sheets.specs.Layers.{lineOf, rowIn}
 use Rattle.sheets.specs.Forms.{allVisible, symbolBy, symbolField, originatorBy, originatorField}
 use Rattle.sheets.specs.ListRows.{securityRow, lineRow, listRowBy, listRow, securities, lines, latest, ascends, among, listRules, listWhole}
-use Rattle.sheets.specs.Market.{ascendFrom, distinct, allLong, Market, MarketRows}
+use Rattle.sheets.specs.Market.{ascendFrom, distinct, allLong, MarketRows}
 use Rattle.sheets.proofs.Formed.{choice-made, counted-made, then-made, formed-made, line-made}
 use Rattle.sheets.proofs.Passed.{Stands, Keeps}
 
@@ -168,12 +168,6 @@ market rows s w =
     let ys = lines rows in
     let p = and-parts (leb 1 (length xs)) (leb 1 (length ys)) w in
     record {
-      someSymbol = leb-true 1 (length xs) (p .0);
-      fewSymbols = s .fewSymbols;
-      ascending = s .ascending;
-      elevenBytes = s .elevenBytes;
-      someOriginator = leb-true 1 (length ys) (p .1);
-      fewOriginators = s .fewOriginators;
-      noneTwice = s .noneTwice;
-      twoBytes = s .twoBytes;
+      symbols = (leb-true 1 (length xs) (p .0), s .fewSymbols, s .ascending, s .elevenBytes);
+      originators = (leb-true 1 (length ys) (p .1), s .fewOriginators, s .noneTwice, s .twoBytes);
     }

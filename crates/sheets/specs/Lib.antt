@@ -7,3 +7,4 @@ pub mod Told
 pub mod ListRows
 pub mod BookRows
 pub mod Market
+pub mod Listed

@@ -24,20 +24,18 @@ abbrev pub allLong : ℕ → List (List ℕ) → Bool
 allLong size [] = true
 allLong size (text ∷ texts) = eqb (length text) size && allLong size texts
 
--- the symbols of a market's securities and the originators of its lines
-pub record Market (symbols originators : List (List ℕ)) : Type 0 where
-  pub someSymbol : 1 ≤ length symbols
-  pub fewSymbols : length symbols ≤ 256
-  pub ascending : ascendFrom None symbols ≡ true
-  pub elevenBytes : allLong 11 symbols ≡ true
-  pub someOriginator : 1 ≤ length originators
-  pub fewOriginators : length originators ≤ 16
-  pub noneTwice : distinct originators ≡ true
-  pub twoBytes : allLong 2 originators ≡ true
+-- the symbols of a market: 1 to 256, ascending, each of eleven bytes
+abbrev pub SymbolList : List (List ℕ) → Type 0
+SymbolList symbols = (1 ≤ length symbols) × (length symbols ≤ 256) × (ascendFrom None symbols ≡ true) × (allLong 11 symbols ≡ true)
+
+-- the originators of a market's lines: 1 to 16, none twice, each of two bytes
+abbrev pub OriginatorList : List (List ℕ) → Type 0
+OriginatorList originators = (1 ≤ length originators) × (length originators ≤ 16) × (distinct originators ≡ true) × (allLong 2 originators ≡ true)
 
 -- rows that are a market
-abbrev pub MarketRows : List ListRow → Type 0
-MarketRows rows = Market (securities rows) (lines rows)
+pub record MarketRows (rows : List ListRow) : Type 0 where
+  pub symbols : SymbolList (securities rows)
+  pub originators : OriginatorList (lines rows)
 
 -- what stands at an index, if anything does
 abbrev pub atIndex : List (List ℕ) → ℕ → Option (List ℕ)

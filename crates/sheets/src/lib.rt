@@ -7,6 +7,7 @@ pub mod field_layer;
 pub mod line_layer;
 pub mod list_row;
 pub mod list_sheet;
+pub mod market_list;
 pub mod reader;
 pub mod row;
 pub mod text;
