@@ -1,0 +1,10 @@
+use mathlib.Core.List.{[]}
+use mathlib.Core.Path.{_≡_}
+use Prim.Native.Nat.{_-_}
+use lib.ListN.{getD}
+use Rattle.sheets.specs.Text.{parts, fieldOf}
+use Rattle.sheets.proofs.text.field.Given as given
+
+-- what is left has the field, as many fields on as turns are left
+abbrev pub Inv-loop : given.InvT-loop
+Inv-loop l = getD (parts 44 (l .rest)) (l .number - l .counter) [] ≡ fieldOf (l .number) (l .line)

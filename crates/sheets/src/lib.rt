@@ -1,0 +1,13 @@
+pub mod book_row;
+pub mod book_sheet;
+pub mod bucket;
+pub mod cause;
+pub mod fault;
+pub mod field_layer;
+pub mod line_layer;
+pub mod list_row;
+pub mod list_sheet;
+pub mod market_list;
+pub mod reader;
+pub mod row;
+pub mod text;
