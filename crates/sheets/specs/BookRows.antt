@@ -60,9 +60,9 @@ abbrev pub sameRow : BookRow → BookRow → Bool
 sameRow one other = sameBytes (fieldsOf one) (fieldsOf other)
 
 -- a row that is there already
-abbrev pub bookDisordered : List BookRow → BookRow → Bool
-bookDisordered [] row = false
-bookDisordered (other ∷ others) row = sameRow other row || bookDisordered others row
+abbrev pub amongRows : List BookRow → BookRow → Bool
+amongRows [] row = false
+amongRows (other ∷ others) row = sameRow other row || amongRows others row
 
 -- at most 256 rows
 abbrev pub bookBeyond : List BookRow → BookRow → Bool
@@ -73,4 +73,4 @@ abbrev pub bookWhole : List BookRow → Bool
 bookWhole seen = true
 
 abbrev pub bookRules : Rules BookRow
-bookRules = record { rowOf = bookRow; disordered = bookDisordered; beyond = bookBeyond; whole = bookWhole }
+bookRules = record { rowOf = bookRow; disordered = amongRows; beyond = bookBeyond; whole = bookWhole }

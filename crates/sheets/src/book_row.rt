@@ -1,7 +1,7 @@
 // The rows of a book sheet, `E,flag`, `D,side`, `C,bucket,value` and `N,flag,value`. A code book says which codes a report may carry:
 // exempt flags, sides, and the bytes of a sale condition by their buckets; and which of these bytes may not stand beside which flag.
 ghost use mathlib.Core.Path.{_≡_};
-ghost use Rattle.sheets.specs.BookRows.{barredRow, bookDisordered, bookRow, bookRules, fieldsOf, flagRow, sameRow, sideRow, valueRow};
+ghost use Rattle.sheets.specs.BookRows.{barredRow, amongRows, bookRow, bookRules, fieldsOf, flagRow, sameRow, sideRow, valueRow};
 use crate::bucket::Bucket;
 use crate::fault::FieldFault;
 use crate::field_layer::bucket_field;
@@ -84,8 +84,8 @@ fn is_same_row(one: &BookRow, other: &BookRow) -> bool
     is_same(&fields(one), &fields(other))
 }
 
-fn is_among(row: &BookRow, rows: &[BookRow]) -> bool
-    ensures { λ r. ⌜ r ≡ bookDisordered (now (rows .entry)) (now (row .entry)) ⌝ }
+pub fn is_among(row: &BookRow, rows: &[BookRow]) -> bool
+    ensures { λ r. ⌜ r ≡ amongRows (now (rows .entry)) (now (row .entry)) ⌝ }
 {
     for other in rows {
         if is_same_row(other, row) {

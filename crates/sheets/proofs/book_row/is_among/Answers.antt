@@ -4,7 +4,7 @@ use Prim.Native.Nat.{_+_}
 use lib.ListN.{drop}
 use Rattle.std.proofs.shelf.Lists.{at-drop-more, at-drop-all}
 use Rattle.sheets.specs.declared.book_row.BookRow.the-variants.{Flag}
-use Rattle.sheets.specs.BookRows.{bookDisordered}
+use Rattle.sheets.specs.BookRows.{amongRows}
 use Rattle.sheets.proofs.book_row.is_among.Needs as need
 
 pub returns-then-is-same-row : need.returns-then-is-same-row
@@ -12,8 +12,8 @@ returns-then-is-same-row c =
     let rows = c .args .rows .now in
     let row = c .args .row .now in
     let i = c .loop-other .other-index in
-    ap (λ b. b || bookDisordered (drop (i + 1) rows) row) (c .if-is-same-row .ensures tt)
-    ∙ sym (at-drop-more (λ rs. bookDisordered rs row) rows i (Flag 0) (c .loop-other-test .taken))
+    ap (λ b. b || amongRows (drop (i + 1) rows) row) (c .if-is-same-row .ensures tt)
+    ∙ sym (at-drop-more (λ rs. amongRows rs row) rows i (Flag 0) (c .loop-other-test .taken))
     ∙ c .loop-other .inv
 
 pub loop-other-again : need.loop-other-again
@@ -21,11 +21,11 @@ loop-other-again c =
     let rows = c .args .rows .now in
     let row = c .args .row .now in
     let i = c .loop-other .other-index in
-    ap (λ b. b || bookDisordered (drop (i + 1) rows) row) (c .if-is-same-row .ensures tt)
-    ∙ sym (at-drop-more (λ rs. bookDisordered rs row) rows i (Flag 0) (c .loop-other-test .taken))
+    ap (λ b. b || amongRows (drop (i + 1) rows) row) (c .if-is-same-row .ensures tt)
+    ∙ sym (at-drop-more (λ rs. amongRows rs row) rows i (Flag 0) (c .loop-other-test .taken))
     ∙ c .loop-other .inv
 
 pub returns : need.returns
 returns c =
     let row = c .args .row .now in
-    sym (at-drop-all (λ rs. bookDisordered rs row) (c .args .rows .now) (c .loop-other .other-index) (c .loop-other-test .left)) ∙ c .loop-other .inv
+    sym (at-drop-all (λ rs. amongRows rs row) (c .args .rows .now) (c .loop-other .other-index) (c .loop-other-test .left)) ∙ c .loop-other .inv
