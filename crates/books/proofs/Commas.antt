@@ -14,7 +14,7 @@ use Rattle.books.specs.SheetSets.{Clean}
 -- texts of which only one has a comma are not the same
 apart-by : (one other : List ℕ) (t : Bool) → Decides t (one ≡ other) → has 44 one ≡ false → has 44 other ≡ true → t ≡ false
 apart-by one other false d h k = refl
-apart-by one other true d h k = sym k ∙ sym (ap (has 44) d) ∙ h
+apart-by one other true d h k = sym k ∙ sym (ap (has 44) (d .0 refl)) ∙ h
 
 pub clean : (rows : List BookRow) → All CommaFree rows → Clean rows
 clean [] h row e = refl
