@@ -3,6 +3,8 @@
 ghost use mathlib.Core.Path.{_≡_};
 ghost use Rattle.sheets.specs.BookRows.{barredRow, amongRows, bookRow, bookRules, fieldsOf, flagRow, sameRow, sideRow, valueRow};
 use crate::bucket::Bucket;
+use crate::bucket::BucketDebug;
+use crate::bucket::BucketPartialEq;
 use crate::fault::FieldFault;
 use crate::field_layer::bucket_field;
 use crate::field_layer::check_count;
@@ -12,7 +14,7 @@ use crate::text::field;
 use crate::text::is_same;
 use crate::text::only_byte;
 
-#[derive(Clone, Copy)]
+#[derive(Clone, Copy, PartialEq, Eq, Debug)]
 pub enum BookRow {
     Flag(u8),
     Side(u8),

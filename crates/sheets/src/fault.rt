@@ -5,6 +5,8 @@ ghost use Rattle.sheets.specs.declared.fault.FieldFault.the-variants.{Line};
 ghost use Rattle.sheets.specs.declared.fault.SheetFault.the-variants.{Field};
 ghost use Rattle.sheets.specs.Told.{causeOf, fieldAt, layerOf, toldOf};
 use crate::cause::Cause;
+use crate::cause::CauseDebug;
+use crate::cause::CausePartialEq;
 
 #[derive(Clone, Copy)]
 pub enum LineFault {
@@ -45,7 +47,7 @@ pub impl From<FieldFault> for SheetFault as SheetFromField {
     }
 }
 
-#[derive(Clone, Copy)]
+#[derive(Clone, Copy, PartialEq, Eq, Debug)]
 pub enum Layer {
     Line,
     Field,
@@ -53,7 +55,7 @@ pub enum Layer {
 }
 
 // What a caller is told of a fault. Lines and fields are counted from 1; the field is 0 where the fault is of no one field.
-#[derive(Clone, Copy)]
+#[derive(Clone, Copy, PartialEq, Eq, Debug)]
 pub struct Fault {
     pub layer: Layer,
     pub cause: Cause,

@@ -15,7 +15,7 @@ use text::symbol::Symbol;
 use text::symbol::precedes;
 
 // A line is one of the day's connections. Its originator, two bytes, names who reports over it.
-#[derive(Clone, Copy)]
+#[derive(Clone, Copy, PartialEq, Eq, Debug)]
 pub enum ListRow {
     Security(Symbol),
     Line([u8; 2]),

@@ -8,6 +8,7 @@ use text::symbol::Symbol;
 pub mod calls;
 
 // Of each array only the places below its count are in use.
+#[derive(Drop)]
 pub struct MarketList {
     symbols: [Symbol; 256],
     symbol_count: usize,
