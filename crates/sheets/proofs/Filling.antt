@@ -44,6 +44,10 @@ filled-at {texts} {left} {room} {n} {size} room′ n′ p q f =
 pub filled-end : {texts left room : List (List ℕ)} {n size : ℕ} → Filled texts left room n size → left ≡ [] → take n room ≡ texts
 filled-end {texts} {left} {room} {n} {size} f e = sym (append-nil (take n room)) ∙ ap (λ u. take n room ++ u) (sym e) ∙ f .is
 
+-- as many places are in use as there are texts
+pub filled-count : {texts left room : List (List ℕ)} {n size : ℕ} → Filled texts left room n size → length texts ≤ size → length (take n room) ≡ n
+filled-count {texts} {left} {room} {n} {size} f few = length-take-le n room (omega (arith, f .count, f .long))
+
 -- what stands at an index
 at-some : (xs : List (List ℕ)) (i : ℕ) (d : List ℕ) → i < length xs → Some (getD xs i d) ≡ atIndex xs i
 at-some [] i d h = absurd (omega arith)
@@ -55,9 +59,8 @@ at-none [] i h = refl
 at-none (x ∷ xs) zero h = absurd (omega arith)
 at-none (x ∷ xs) (suc i) h = at-none xs i (omega arith)
 
-pub below : (room : List (List ℕ)) (n i : ℕ) (d : List ℕ) → n ≤ length room → i < n → Some (getD room i d) ≡ atIndex (take n room) i
-below room n i d long h =
-    ap (λ x. Some x) (sym (getD-take n room i d h)) ∙ at-some (take n room) i d (omega (arith, length-take-le n room long))
+pub below : (room : List (List ℕ)) (n i : ℕ) (d : List ℕ) → length (take n room) ≡ n → i < n → Some (getD room i d) ≡ atIndex (take n room) i
+below room n i d long h = ap (λ x. Some x) (sym (getD-take n room i d h)) ∙ at-some (take n room) i d (omega arith)
 
-pub past : (room : List (List ℕ)) (n i : ℕ) → n ≤ length room → n ≤ i → None ≡ atIndex (take n room) i
-past room n i long h = at-none (take n room) i (omega (arith, length-take-le n room long))
+pub past : (room : List (List ℕ)) (n i : ℕ) → length (take n room) ≡ n → n ≤ i → None ≡ atIndex (take n room) i
+past room n i long h = at-none (take n room) i (omega arith)

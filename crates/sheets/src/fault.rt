@@ -1,6 +1,7 @@
 // A sheet is read in three layers, and each has its own faults: the lines of a text, the fields of a line, and the rows of a sheet.
 // A layer passes the faults of the one below it on.
 ghost use mathlib.Core.Path.{_≡_};
+ghost use Prim.Native.Nat.{_+_, _<_, _^_};
 ghost use Rattle.sheets.specs.declared.fault.FieldFault.the-variants.{Line};
 ghost use Rattle.sheets.specs.declared.fault.SheetFault.the-variants.{Field};
 ghost use Rattle.sheets.specs.Told.{causeOf, fieldAt, layerOf, toldOf};
@@ -99,13 +100,15 @@ impl SheetFault {
         }
     }
 
-    pub fn at_line(self, line: usize) -> Fault
-        ensures { λ r. ⌜ r ≡ toldOf self line ⌝ }
+    // The fault at the line past so many rows: each line before it is a row.
+    pub(crate) fn past_rows(self, rows: usize) -> Fault
+        requires { ⌜ rows + 1 < 2 ^ 64 ⌝ }
+        ensures { λ r. ⌜ r ≡ toldOf self (rows + 1) ⌝ }
     {
         Fault {
             layer: self.layer(),
             cause: self.cause(),
-            line,
+            line: rows + 1,
             field: self.field(),
         }
     }

@@ -11,4 +11,4 @@ pub mod list_sheet;
 pub mod market_list;
 mod reader;
 pub mod row;
-mod text;
+pub mod text;

@@ -1,6 +1,5 @@
 // The list of a practice day: its securities by their symbols, and its lines by their originators.
 ghost use mathlib.Core.Path.{_≡_};
-ghost use Prim.Native.Nat.{_≤_};
 ghost use lib.ListN.{length, take};
 ghost use Rattle.sheets.specs.Market.{OriginatorList, SymbolList};
 use text::symbol::Symbol;
@@ -14,7 +13,7 @@ pub struct MarketList {
     symbol_count: usize,
     originators: [[u8; 2]; 16],
     originator_count: usize,
-    ghost room: { (length symbols ≡ 256) × («symbol_count» ≤ 256) × (length originators ≡ 16) × («originator_count» ≤ 16) },
+    ghost counted: { (length (take «symbol_count» symbols) ≡ «symbol_count») × (length (take «originator_count» originators) ≡ «originator_count») },
     ghost listed: { SymbolList (take «symbol_count» symbols) },
     ghost connected: { OriginatorList (take «originator_count» originators) },
 }

@@ -54,11 +54,11 @@ pub fn read<R: SheetRow>(text: &[u8], table: &mut [R]) -> Result<usize, Fault>
                 count += 1;
                 rest = after_first(rest, b'\n');
             }
-            Err(fault) => return Err(fault.at_line(count + 1)),
+            Err(fault) => return Err(fault.past_rows(count)),
         }
     }
     if !R::are_whole(&table[0..count]) {
-        return Err(SheetFault::Incomplete.at_line(count + 1));
+        return Err(SheetFault::Incomplete.past_rows(count));
     }
     Ok(count)
 }

@@ -26,8 +26,8 @@ loop-rest-again g c =
     let h : n < length table = omega (arith, w .1) in
     sofar-more s (c .in-Ok .row) _ h (c .after-first-rest .ensures) (w .0) (length table) (take (n - 0) table) (s .long) (ap (λ j. take j table) z) (sym (c .in-Ok .ensures tt .value))
 
-pub add-count-in-Err : need.add-count-in-Err
-add-count-in-Err g c = omega arith
+pub past-rows-requires : need.past-rows-requires
+past-rows-requires g c κs = omega arith
 
 pub returns-in-Err : need.returns-in-Err
 returns-in-Err g c =
@@ -38,10 +38,10 @@ returns-in-Err g c =
     let z : n - 0 ≡ n = omega arith in
     let some : 0 < length rest = omega (arith, eqb-false (length rest) 0 (sym (c .loop-rest-test .ensures tt))) in
     let e = ends-at s (c .in-Err .fault) some (length table) (take (n - 0) table) (s .long) (ap (λ j. take j table) z) (sym (c .in-Err .ensures tt .value)) in
-    record { answer = ap (λ t. Err t) (c .at-line .ensures) ∙ e .answer; rows = e .rows; within = tt }
+    record { answer = ap (λ t. Err t) (c .past-rows .ensures) ∙ e .answer; rows = e .rows; within = tt }
 
-pub add-count-then-not-are-whole : need.add-count-then-not-are-whole
-add-count-then-not-are-whole g c = omega arith
+pub past-rows-requires-then-not-are-whole : need.past-rows-requires-then-not-are-whole
+past-rows-requires-then-not-are-whole g c κs = omega arith
 
 pub returns-then-not-are-whole : need.returns-then-not-are-whole
 returns-then-not-are-whole g c =
@@ -51,7 +51,7 @@ returns-then-not-are-whole g c =
     let z : n ≡ n - 0 = omega arith in
     let none : length rest ≡ 0 = eqb-true (length rest) 0 (sym (c .loop-rest-test .ensures tt)) in
     let e = ends-whole (c .loop-rest .inv) none false (ap (λ j. g .R·SheetRow .rules .whole (take j table)) z ∙ sym (c .if-not-are-whole .ensures tt)) in
-    record { answer = ap (λ t. Err t) (c .at-line-then-not-are-whole .ensures) ∙ e .answer; rows = e .rows; within = tt }
+    record { answer = ap (λ t. Err t) (c .past-rows-then-not-are-whole .ensures) ∙ e .answer; rows = e .rows; within = tt }
 
 pub returns : need.returns
 returns g c =

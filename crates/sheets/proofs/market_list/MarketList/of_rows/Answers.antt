@@ -1,13 +1,12 @@
 use mathlib.Core.List.{[]}
 use mathlib.Core.Path.{_≡_, sym, ap, subst, _∙_}
 use Prim.Native.Nat.{_+_}
-use native.Mathlib.Omega.{arith}
 use lib.ListN.{drop}
 use Rattle.std.proofs.shelf.Lists.{at-drop-all}
 use Rattle.sheets.specs.declared.list_row.ListRow.the-variants.{Security}
 use Rattle.sheets.specs.ListRows.{securities, lines}
 use Rattle.sheets.specs.Market.{SymbolList, OriginatorList}
-use Rattle.sheets.proofs.Filling.{filled-at, filled-fits, filled-more, filled-same, filled-end}
+use Rattle.sheets.proofs.Filling.{filled-at, filled-count, filled-fits, filled-more, filled-same, filled-end}
 use Rattle.sheets.proofs.Steps.{at-known}
 use Rattle.sheets.proofs.market_list.MarketList.of_rows.Needs as need
 use Rattle.sheets.proofs.market_list.MarketList.of_rows.Needs.{in-Security, in-Line}
@@ -52,7 +51,7 @@ ghost-result c =
     let g = c .loop-row .inv .1 in
     let symbols = filled-end f (at-drop-all securities rows i end) in
     let originators = filled-end g (at-drop-all lines rows i end) in (
-      (f .long, omega (arith, f .count, c .pre .symbols .1), g .long, omega (arith, g .count, c .pre .originators .1)),
+      (filled-count f (c .pre .symbols .1), filled-count g (c .pre .originators .1)),
       (subst SymbolList (sym symbols) (c .pre .symbols), (subst OriginatorList (sym originators) (c .pre .originators), tt)),
     )
 
