@@ -6,9 +6,9 @@ use Prim.Native.Nat.{ℕ}
 use Rattle.std.specs.shelf.Lists.{All}
 use Rattle.std.specs.Orderings.{Decides}
 use Rattle.std.proofs.shelf.Equals.{sameBytes-decides}
-use Rattle.sheets.specs.BookRows.{amongRows, CommaFree, fieldsOf, sameRow}
+use Rattle.codes.specs.BookRows.{amongRows, CommaFree, fieldsOf, sameRow}
 use Rattle.sheets.specs.Text.{has}
-use Rattle.sheets.specs.declared.book_row.BookRow.{BookRow}
+use Rattle.codes.specs.declared.book_row.BookRow.{BookRow}
 use Rattle.books.specs.SheetSets.{Clean}
 
 -- texts of which only one has a comma are not the same

@@ -3,10 +3,10 @@ use mathlib.Core.Bool.{Bool, true, false, not, _||_}
 use mathlib.Core.List.{List, [], _∷_}
 use mathlib.Core.Path.{_≡_, refl}
 use Prim.Native.Nat.{ℕ}
-use Rattle.sheets.specs.BookRows.{amongRows, fieldsOf}
+use Rattle.codes.specs.BookRows.{amongRows, fieldsOf}
 use Rattle.sheets.specs.Text.{has}
-use Rattle.sheets.specs.declared.book_row.BookRow.{BookRow}
-use Rattle.sheets.specs.declared.book_row.BookRow.the-variants.{Flag, Side, Value, Barred}
+use Rattle.codes.specs.declared.book_row.BookRow.{BookRow}
+use Rattle.codes.specs.declared.book_row.BookRow.the-variants.{Flag, Side, Value, Barred}
 use Rattle.sheets.specs.declared.bucket.Bucket.{Bucket}
 use Rattle.sheets.specs.declared.bucket.Bucket.the-variants.{One, Two, Three, Four}
 use Rattle.books.specs.Sets.{Sets}

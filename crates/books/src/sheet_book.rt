@@ -2,11 +2,11 @@
 ghost use mathlib.Core.Path.{_≡_};
 ghost use mathlib.Core.Bool.{true, false};
 ghost use Rattle.std.specs.shelf.Lists.{All};
-ghost use Rattle.sheets.specs.BookRows.{CommaFree};
+ghost use Rattle.codes.specs.BookRows.{CommaFree};
 ghost use Rattle.books.specs.SheetSets.{anyBarred, Clean, sheetSets};
 use crate::code_book::CodeBook;
-use sheets::book_row::BookRow;
-use sheets::book_row::is_among;
+use codes::book_row::BookRow;
+use codes::book_row::is_among;
 use sheets::bucket::Bucket;
 
 #[derive(Drop)]

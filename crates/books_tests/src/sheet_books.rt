@@ -2,8 +2,8 @@
 use books::code_book::CodeBook;
 use books::sheet_book::SheetBook;
 use books::sheet_book::SheetCodeBook;
-use sheets::book_row::BookRow;
-use sheets::book_sheet::read_book;
+use codes::book_row::BookRow;
+use codes::book_sheet::read_book;
 use sheets::bucket::Bucket;
 use std::test::*;
 

@@ -1,8 +1,8 @@
 // What a list sheet holds.
 use crate::fault_text::print_fault;
-use sheets::list_row::ListRow;
-use sheets::list_sheet::read_list;
-use sheets::market_list::MarketList;
+use lists::list_row::ListRow;
+use lists::list_sheet::read_list;
+use lists::market_list::MarketList;
 use show::quoted::quoted;
 use std::error::AnyError;
 use text::symbol::unpadded;

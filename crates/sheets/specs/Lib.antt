@@ -1,10 +1,6 @@
-pub mod Text
 pub mod Cause
-pub mod Layers
 pub mod Forms
+pub mod Layers
 pub mod Reading
+pub mod Text
 pub mod Told
-pub mod ListRows
-pub mod BookRows
-pub mod Market
-pub mod Listed

@@ -1,14 +1,10 @@
-// Reads the two day sheets that a practice day is set up from: the list sheet and the book sheet.
-pub mod book_row;
-pub mod book_sheet;
+// Day sheets: the two texts that a practice day is set up from. This crate reads a sheet of any kind of row into a caller's table,
+// in three layers: the lines of a text, the fields of a line, and the rows of a sheet.
 pub mod bucket;
 pub mod cause;
 pub mod fault;
-mod field_layer;
-mod line_layer;
-pub mod list_row;
-pub mod list_sheet;
-pub mod market_list;
-mod reader;
+pub mod field_layer;
+pub mod line_layer;
+pub mod reader;
 pub mod row;
 pub mod text;

@@ -1,12 +1,12 @@
 // What a sheet is expected to be read as, with slots to spare.
-use sheets::book_row::BookRow;
-use sheets::book_sheet::read_book;
+use codes::book_row::BookRow;
+use codes::book_sheet::read_book;
+use lists::list_row::ListRow;
+use lists::list_sheet::read_list;
 use sheets::fault::Fault;
 use sheets::fault::Layer;
 use sheets::fault::LayerDebug;
 use sheets::fault::LayerPartialEq;
-use sheets::list_row::ListRow;
-use sheets::list_sheet::read_list;
 use std::test::*;
 
 pub fn tells(

@@ -5,16 +5,16 @@ use crate::expect::list_passes;
 use crate::expect::list_tells;
 use crate::expect::passes;
 use crate::expect::tells;
-use sheets::book_row::BookRow;
-use sheets::book_row::BookRowDebug;
-use sheets::book_row::BookRowPartialEq;
-use sheets::book_sheet::read_book;
+use codes::book_row::BookRow;
+use codes::book_row::BookRowDebug;
+use codes::book_row::BookRowPartialEq;
+use codes::book_sheet::read_book;
+use lists::list_row::ListRow;
+use lists::list_row::ListRowDebug;
+use lists::list_row::ListRowPartialEq;
+use lists::list_sheet::read_list;
 use sheets::bucket::Bucket;
 use sheets::fault::Layer;
-use sheets::list_row::ListRow;
-use sheets::list_row::ListRowDebug;
-use sheets::list_row::ListRowPartialEq;
-use sheets::list_sheet::read_list;
 use std::test::*;
 
 #[test]

@@ -1,0 +1,24 @@
+// The book sheet: the codes that the reports of a practice day may carry.
+ghost use mathlib.Core.Path.{_≡_};
+ghost use Prim.Native.Nat.{_≤_};
+ghost use lib.ListN.{length, take};
+ghost use Rattle.std.specs.Vec.{made};
+ghost use Rattle.std.specs.shelf.Lists.{All};
+ghost use Rattle.codes.specs.BookRows.{bookRules, CommaFree};
+ghost use Rattle.sheets.specs.Reading.{sheetOf, tableAfter};
+ghost use Rattle.sheets.specs.Told.{answerOf};
+use crate::book_row::BookRow;
+use crate::book_row::BookSheet;
+use sheets::fault::Fault;
+use sheets::reader::read;
+
+// Reads a book sheet into a table, a row to a slot: how many rows it has, or its first fault. The rows before a fault stand in their
+// slots, and every other slot is left as it was.
+pub fn read_book(text: &[u8], table: &mut [BookRow]) -> Result<usize, Fault>
+    ensures answer { λ r. ⌜ r ≡ answerOf (sheetOf bookRules (length (now (table .entry))) (now (text .entry))) ⌝ }
+    ensures rows { λ _. ⌜ now (table .exit) ≡ tableAfter (sheetOf bookRules (length (now (table .entry))) (now (text .entry))) (now (table .entry)) ⌝ }
+    ensures within { λ r. ⌜ made r (λ n. n ≤ length (now (table .entry))) ⌝ }
+    ensures commas { λ r. ⌜ made r (λ n. All CommaFree (take n (now (table .exit)))) ⌝ }
+{
+    read(text, table)
+}
