@@ -4,7 +4,7 @@ use mathlib.Core.List.{List, [], _∷_}
 use mathlib.Core.Path.{_≡_, refl}
 use Prim.Native.Nat.{ℕ}
 use Rattle.codes.specs.BookRows.{amongRows, fieldsOf}
-use Rattle.sheets.specs.Text.{has}
+use Rattle.cuts.specs.Cut.{has}
 use Rattle.codes.specs.declared.book_row.BookRow.{BookRow}
 use Rattle.codes.specs.declared.book_row.BookRow.the-variants.{Flag, Side, Value, Barred}
 use Rattle.sheets.specs.declared.bucket.Bucket.{Bucket}

@@ -6,7 +6,7 @@ use Prim.Native.Nat.{ℕ}
 use lib.Chars.{codes}
 use lib.Dec.{eqb}
 use lib.ListN.{length, getD}
-use Rattle.sheets.specs.Text.{has}
+use Rattle.cuts.specs.Cut.{has}
 use Rattle.sheets.specs.declared.bucket.Bucket.{Bucket}
 use Rattle.sheets.specs.declared.bucket.Bucket.the-variants.{One, Two, Three, Four}
 use Rattle.books.specs.Sets.{Sets}

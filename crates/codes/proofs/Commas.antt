@@ -21,7 +21,7 @@ use Rattle.codes.specs.declared.book_row.BookRow.{BookRow}
 use Rattle.codes.specs.declared.book_row.BookRow.the-variants.{Flag, Side, Value, Barred}
 use Rattle.sheets.specs.declared.fault.FieldFault.{FieldFault}
 use Rattle.sheets.specs.declared.fault.FieldFault.the-variants.{UnknownRow}
-use Rattle.sheets.specs.Text.{inFront, parts, has, fieldOf, onlyByte}
+use Rattle.cuts.specs.Cut.{inFront, parts, has, fieldOf, onlyByte}
 use Rattle.sheets.specs.Layers.{lineOf, rowIn}
 use Rattle.sheets.specs.Forms.{digitOf, printableBy, printableField, bucketField}
 use Rattle.codes.specs.BookRows.{flagRow, sideRow, valueRow, barredRow, bookRowBy, bookRow, bookRules, CommaFree}

@@ -14,7 +14,7 @@ use Rattle.sheets.specs.declared.fault.FieldFault.{FieldFault}
 use Rattle.sheets.specs.declared.fault.FieldFault.the-variants.{UnknownRow}
 use Rattle.codes.specs.declared.book_row.BookRow.{BookRow}
 use Rattle.codes.specs.declared.book_row.BookRow.the-variants.{Flag, Side, Value, Barred}
-use Rattle.sheets.specs.Text.{fieldOf, onlyByte, has}
+use Rattle.cuts.specs.Cut.{fieldOf, onlyByte, has}
 use Rattle.sheets.specs.Layers.{Rules}
 use Rattle.sheets.specs.Forms.{digitOf, counted, andThen, printableField, bucketField}
 

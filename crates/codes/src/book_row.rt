@@ -2,6 +2,9 @@
 // exempt flags, sides, and the bytes of a sale condition by their buckets; and which of these bytes may not stand beside which flag.
 ghost use mathlib.Core.Path.{_≡_};
 ghost use Rattle.codes.specs.BookRows.{barredRow, amongRows, bookRow, bookRules, fieldsOf, flagRow, sameRow, sideRow, valueRow};
+use cuts::cut::field;
+use cuts::cut::is_same;
+use cuts::cut::only_byte;
 use sheets::bucket::Bucket;
 use sheets::bucket::BucketDebug;
 use sheets::bucket::BucketPartialEq;
@@ -10,9 +13,6 @@ use sheets::field_layer::bucket_field;
 use sheets::field_layer::check_count;
 use sheets::field_layer::printable_field;
 use sheets::row::SheetRow;
-use sheets::text::field;
-use sheets::text::is_same;
-use sheets::text::only_byte;
 
 #[derive(Clone, Copy, PartialEq, Eq, Debug)]
 pub enum BookRow {

@@ -1,9 +1,9 @@
 // A fault of a sheet, with the line that it stands in and a mark under the field.
+use cuts::cut::after_first;
+use cuts::cut::first_part;
 use sheets::cause::Cause;
 use sheets::fault::Fault;
 use sheets::fault::Layer;
-use sheets::text::after_first;
-use sheets::text::first_part;
 use show::quoted::quoted;
 use std::error::AnyError;
 

@@ -21,7 +21,7 @@ use Rattle.text.specs.Symbol.{symbolOf}
 use Rattle.lists.specs.declared.list_row.ListRow.{ListRow}
 use Rattle.lists.specs.declared.list_row.ListRow.the-variants.{Security, Line}
 use Rattle.sheets.specs.declared.fault.FieldFault.the-variants.{UnknownRow}
-use Rattle.sheets.specs.Text.{fieldOf, onlyByte}
+use Rattle.cuts.specs.Cut.{fieldOf, onlyByte}
 use Rattle.sheets.specs.Layers.{lineOf, rowIn}
 use Rattle.sheets.specs.Forms.{allVisible, symbolBy, symbolField, originatorBy, originatorField}
 use Rattle.lists.specs.ListRows.{securityRow, lineRow, listRowBy, listRow, securities, lines, latest, ascends, among, listRules, listWhole}

@@ -14,7 +14,7 @@ use Rattle.sheets.specs.declared.fault.FieldFault.{FieldFault}
 use Rattle.sheets.specs.declared.fault.FieldFault.the-variants.{UnknownRow}
 use Rattle.lists.specs.declared.list_row.ListRow.{ListRow}
 use Rattle.lists.specs.declared.list_row.ListRow.the-variants.{Security, Line}
-use Rattle.sheets.specs.Text.{fieldOf, onlyByte}
+use Rattle.cuts.specs.Cut.{fieldOf, onlyByte}
 use Rattle.sheets.specs.Layers.{Rules}
 use Rattle.sheets.specs.Forms.{counted, andThen, symbolField, originatorField}
 

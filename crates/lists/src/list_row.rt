@@ -3,14 +3,14 @@ ghost use mathlib.Core.Path.{_≡_};
 ghost use lib.ListN.{length};
 ghost use Rattle.std.specs.declared.option.Option.the-variants.{None};
 ghost use Rattle.lists.specs.ListRows.{among, latest, lineRow, lines, listBeyond, listDisordered, listRow, listRules, listWhole, securities, securityRow};
+use cuts::cut::field;
+use cuts::cut::is_same;
+use cuts::cut::only_byte;
 use sheets::fault::FieldFault;
 use sheets::field_layer::check_count;
 use sheets::field_layer::originator_field;
 use sheets::field_layer::symbol_field;
 use sheets::row::SheetRow;
-use sheets::text::field;
-use sheets::text::is_same;
-use sheets::text::only_byte;
 use text::symbol::Symbol;
 use text::symbol::precedes;
 

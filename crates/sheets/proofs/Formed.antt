@@ -13,7 +13,7 @@ use Rattle.std.specs.declared.result.Result.the-variants.{Ok, Err}
 use Rattle.sheets.specs.declared.fault.FieldFault.{FieldFault}
 use Rattle.sheets.specs.declared.fault.FieldFault.the-variants.{FieldCount, UnknownRow}
 use Rattle.sheets.specs.declared.fault.LineFault.{LineFault}
-use Rattle.sheets.specs.Text.{fieldCount}
+use Rattle.cuts.specs.Cut.{fieldCount}
 use Rattle.sheets.specs.Layers.{Rules, rowIn}
 use Rattle.sheets.specs.Forms.{counted, formed, andThen}
 

@@ -1,4 +1,3 @@
-pub mod Cuts
 pub mod Formed
 pub mod Passed
 pub mod Sofar

@@ -16,7 +16,7 @@ use Rattle.sheets.specs.declared.fault.FieldFault.{FieldFault}
 use Rattle.sheets.specs.declared.fault.Fault.{Fault}
 use Rattle.sheets.specs.declared.fault.SheetFault.{SheetFault}
 use Rattle.sheets.specs.declared.fault.SheetFault.the-variants.{Field, OutOfOrder, TooMany, Incomplete}
-use Rattle.sheets.specs.Text.{parts}
+use Rattle.cuts.specs.Cut.{parts}
 use Rattle.sheets.specs.Layers.{Rules, lineOf, rowIn, placed}
 use Rattle.sheets.specs.Reading.{Outcome, ended, step, reading, sheetOf, tableAfter}
 use Rattle.sheets.specs.Told.{answerBy, answerOf, toldOf}

@@ -14,11 +14,11 @@ use Rattle.sheets.specs.declared.fault.LineFault.the-variants.{Unended}
 use Rattle.sheets.specs.declared.fault.FieldFault.the-variants.{Line}
 use Rattle.sheets.specs.declared.fault.SheetFault.{SheetFault}
 use Rattle.sheets.specs.declared.fault.SheetFault.the-variants.{Field, Incomplete}
-use Rattle.sheets.specs.Text.{parts, firstPart, has, past}
+use Rattle.cuts.specs.Cut.{parts, firstPart, has, past}
 use Rattle.sheets.specs.Layers.{Rules, lineOf, nextLine, rowIn, placed}
 use Rattle.sheets.specs.Reading.{Outcome, ended, step, reading, sheetOf, tableAfter}
 use Rattle.sheets.specs.Told.{answerBy, answerOf}
-use Rattle.sheets.proofs.Cuts.{parts-next, parts-none, parts-some, past-shorter}
+use Rattle.cuts.proofs.Cuts.{parts-next, parts-none, parts-some, past-shorter}
 
 -- what is left of the text gives the whole outcome, and the slots past the rows are as they were
 pub record Sofar {Row : Type 0} (rules : Rules Row) (text rest : List ℕ) (before table : List Row) (n : ℕ) : Type 0 where

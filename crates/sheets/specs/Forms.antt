@@ -14,7 +14,7 @@ use Rattle.sheets.specs.declared.fault.FieldFault.{FieldFault}
 use Rattle.sheets.specs.declared.fault.FieldFault.the-variants.{FieldCount, FieldForm}
 use Rattle.sheets.specs.declared.bucket.Bucket.{Bucket}
 use Rattle.sheets.specs.declared.bucket.Bucket.the-variants.{One, Two, Three, Four}
-use Rattle.sheets.specs.Text.{fieldOf, fieldCount, onlyByte}
+use Rattle.cuts.specs.Cut.{fieldOf, fieldCount, onlyByte}
 
 -- a line of so many fields, and what it then is
 abbrev pub counted : {Row : Type 0} → ℕ → List ℕ → Result Row FieldFault → Result Row FieldFault

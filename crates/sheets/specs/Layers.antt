@@ -13,7 +13,7 @@ use Rattle.sheets.specs.declared.fault.FieldFault.{FieldFault}
 use Rattle.sheets.specs.declared.fault.FieldFault.the-variants.{Line}
 use Rattle.sheets.specs.declared.fault.SheetFault.{SheetFault}
 use Rattle.sheets.specs.declared.fault.SheetFault.the-variants.{Field, OutOfOrder, TooMany}
-use Rattle.sheets.specs.Text.{firstPart, has}
+use Rattle.cuts.specs.Cut.{firstPart, has}
 
 -- what makes one kind of sheet: the row of a line, whether a row is out of order after others, whether it is one too many after
 -- them, and whether rows are a whole sheet

@@ -2,5 +2,4 @@ pub mod Cause
 pub mod Forms
 pub mod Layers
 pub mod Reading
-pub mod Text
 pub mod Told

@@ -11,7 +11,7 @@ use Rattle.sheets.specs.declared.fault.LineFault.the-variants.{Unended}
 use Rattle.sheets.specs.declared.fault.FieldFault.the-variants.{Line}
 use Rattle.sheets.specs.declared.fault.SheetFault.{SheetFault}
 use Rattle.sheets.specs.declared.fault.SheetFault.the-variants.{Field, Incomplete}
-use Rattle.sheets.specs.Text.{parts}
+use Rattle.cuts.specs.Cut.{parts}
 use Rattle.sheets.specs.Layers.{Rules, lineOf, rowIn, placed}
 
 pub record Outcome (Row : Type 0) : Type 0 where

@@ -7,4 +7,3 @@ pub mod field_layer;
 pub mod line_layer;
 pub mod reader;
 pub mod row;
-pub mod text;

@@ -2,11 +2,11 @@
 ghost use mathlib.Core.Path.{_≡_};
 ghost use mathlib.Core.Bool.{true};
 ghost use Rattle.std.specs.Vec.{made};
-ghost use Rattle.sheets.specs.Text.{has};
+ghost use Rattle.cuts.specs.Cut.{has};
 ghost use Rattle.sheets.specs.Layers.{lent, nextLine};
 use crate::fault::LineFault;
-use crate::text::contains;
-use crate::text::first_part;
+use cuts::cut::contains;
+use cuts::cut::first_part;
 
 // The line at the front of what is left of a text.
 pub fn next_line(rest: &[u8]) -> Result<&[u8], LineFault>

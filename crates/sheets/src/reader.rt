@@ -4,7 +4,7 @@ ghost use mathlib.Core.Bool.{true};
 ghost use Prim.Native.Nat.{_<_, _≤_};
 ghost use lib.ListN.{length};
 ghost use Rattle.std.specs.Vec.{made};
-ghost use Rattle.sheets.specs.Text.{has};
+ghost use Rattle.cuts.specs.Cut.{has};
 ghost use Rattle.sheets.specs.Layers.{rowIn, nextLine, placed as placedAs};
 ghost use Rattle.sheets.specs.Reading.{sheetOf, tableAfter};
 ghost use Rattle.sheets.specs.Told.{answerOf};
@@ -15,7 +15,7 @@ use crate::fault::SheetFault;
 use crate::fault::SheetFromField;
 use crate::line_layer::next_line;
 use crate::row::SheetRow;
-use crate::text::after_first;
+use cuts::cut::after_first;
 
 fn next_row<R: SheetRow>(rest: &[u8]) -> Result<R, FieldFault>
     ensures value { λ r. ⌜ r ≡ rowIn (R·SheetRow .rules) (nextLine (now (rest .entry))) ⌝ }

@@ -9,7 +9,7 @@ use sheets::fault::LayerDebug;
 use sheets::fault::LayerPartialEq;
 use std::test::*;
 
-pub fn tells(
+pub(crate) fn tells(
     answer: Result<usize, Fault>,
     layer: Layer,
     cause: u16,
@@ -25,14 +25,14 @@ pub fn tells(
     check_eq(fault.field, field)
 }
 
-pub fn passes(answer: Result<usize, Fault>, rows: usize) -> Result<(), Fail> {
+pub(crate) fn passes(answer: Result<usize, Fault>, rows: usize) -> Result<(), Fail> {
     match answer {
         Ok(count) => check_eq(count, rows),
         Err(fault) => check_eq(fault.cause.number(), 0),
     }
 }
 
-pub fn list_tells(
+pub(crate) fn list_tells(
     text: &[u8],
     layer: Layer,
     cause: u16,
@@ -43,12 +43,12 @@ pub fn list_tells(
     tells(read_list(text, &mut table), layer, cause, line, field)
 }
 
-pub fn list_passes(text: &[u8], rows: usize) -> Result<(), Fail> {
+pub(crate) fn list_passes(text: &[u8], rows: usize) -> Result<(), Fail> {
     let mut table = [ListRow::Line([0, 0]); 300];
     passes(read_list(text, &mut table), rows)
 }
 
-pub fn book_tells(
+pub(crate) fn book_tells(
     text: &[u8],
     layer: Layer,
     cause: u16,
@@ -59,7 +59,7 @@ pub fn book_tells(
     tells(read_book(text, &mut table), layer, cause, line, field)
 }
 
-pub fn book_passes(text: &[u8], rows: usize) -> Result<(), Fail> {
+pub(crate) fn book_passes(text: &[u8], rows: usize) -> Result<(), Fail> {
     let mut table = [BookRow::Flag(0); 300];
     passes(read_book(text, &mut table), rows)
 }

@@ -4,7 +4,7 @@ use Prim.Native.Nat.{_+_}
 use lib.ListN.{drop}
 use Rattle.std.proofs.shelf.Lists.{at-drop-more, at-drop-all}
 use Rattle.std.proofs.shelf.Tests.{eq-eqb, ne-eqb}
-use Rattle.sheets.specs.Text.{has}
+use Rattle.cuts.specs.Cut.{has}
 use Rattle.books.proofs.one_of.is_one_of.Needs as need
 
 pub returns-then-other-byte : need.returns-then-other-byte

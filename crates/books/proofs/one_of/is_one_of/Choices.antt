@@ -1,6 +1,6 @@
 use mathlib.Core.Path.{_≡_}
 use lib.ListN.{drop}
-use Rattle.sheets.specs.Text.{has}
+use Rattle.cuts.specs.Cut.{has}
 use Rattle.books.proofs.one_of.is_one_of.Given as given
 
 -- what is left decides

@@ -6,7 +6,7 @@ use Rattle.std.specs.declared.result.Result.the-variants.{Err}
 use mathlib.Core.Bool.{true, false}
 use Rattle.std.proofs.shelf.Lists.{length-take-le}
 use Rattle.std.proofs.shelf.Tests.{eqb-true, eqb-false}
-use Rattle.sheets.proofs.Cuts.{past-shorter}
+use Rattle.cuts.proofs.Cuts.{past-shorter}
 use Rattle.sheets.proofs.Sofar.{sofar-more, ends-at, ends-whole}
 use Rattle.sheets.proofs.reader.read.Needs as need
 

@@ -1,8 +1,8 @@
 use mathlib.Core.Path.{_≡_}
 use Prim.Native.Nat.{_+_}
 use lib.ListN.{length, drop}
-use Rattle.sheets.specs.Text.{firstPart}
-use Rattle.sheets.proofs.text.reach.Given as given
+use Rattle.cuts.specs.Cut.{firstPart}
+use Rattle.cuts.proofs.cut.reach.Given as given
 
 -- what is left gives the rest of the length
 abbrev pub Inv-loop-i : given.InvT-loop-i

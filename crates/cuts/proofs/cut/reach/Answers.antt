@@ -1,8 +1,8 @@
 use mathlib.Core.Path.{_≡_}
 use native.Mathlib.Omega.{arith}
 use borrow.Author.Tests.{eq-eqb, ne-eqb}
-use Rattle.sheets.proofs.Cuts.{scan-found, scan-more, scan-end, reached}
-use Rattle.sheets.proofs.text.reach.Needs as need
+use Rattle.cuts.proofs.Cuts.{scan-found, scan-more, scan-end, reached}
+use Rattle.cuts.proofs.cut.reach.Needs as need
 
 pub returns-then-byte-separator : need.returns-then-byte-separator
 returns-then-byte-separator c =

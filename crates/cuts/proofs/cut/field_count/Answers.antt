@@ -2,9 +2,9 @@ use mathlib.Core.Path.{_≡_}
 use Prim.Native.Nat.{_+_}
 use native.Mathlib.Omega.{arith}
 use borrow.Author.Tests.{eq-eqb, ne-eqb}
-use Rattle.sheets.proofs.Cuts.{count-found, count-more, count-end}
-use Rattle.sheets.proofs.text.field_count.Needs as need
-use Rattle.sheets.proofs.text.field_count.Needs.{then-byte-eq44, else-byte-eq44}
+use Rattle.cuts.proofs.Cuts.{count-found, count-more, count-end}
+use Rattle.cuts.proofs.cut.field_count.Needs as need
+use Rattle.cuts.proofs.cut.field_count.Needs.{then-byte-eq44, else-byte-eq44}
 
 pub loop-byte-again : need.loop-byte-again
 loop-byte-again c =

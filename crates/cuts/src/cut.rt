@@ -4,7 +4,7 @@ ghost use Prim.Native.Nat.{_≤_};
 ghost use lib.Dec.{ltb};
 ghost use lib.ListN.{length, take};
 ghost use Rattle.std.specs.shelf.Text.{sameBytes};
-ghost use Rattle.sheets.specs.Text.{fieldCount, fieldOf, firstPart, has, onlyByte, past};
+ghost use Rattle.cuts.specs.Cut.{fieldCount, fieldOf, firstPart, has, onlyByte, past};
 
 // How many bytes stand before the first separator.
 fn reach(text: &[u8], separator: u8) -> usize

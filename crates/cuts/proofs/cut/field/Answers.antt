@@ -3,9 +3,9 @@ use mathlib.Core.Path.{_≡_, sym, ap, _∙_}
 use Prim.Native.Nat.{_+_, _-_, suc}
 use native.Mathlib.Omega.{arith}
 use lib.ListN.{getD}
-use Rattle.sheets.specs.Text.{parts}
-use Rattle.sheets.proofs.Cuts.{part-zero, part-suc}
-use Rattle.sheets.proofs.text.field.Needs as need
+use Rattle.cuts.specs.Cut.{parts}
+use Rattle.cuts.proofs.Cuts.{part-zero, part-suc}
+use Rattle.cuts.proofs.cut.field.Needs as need
 
 pub loop-again : need.loop-again
 loop-again c =

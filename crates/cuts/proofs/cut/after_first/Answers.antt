@@ -3,8 +3,8 @@ use Prim.Native.Nat.{_+_, _≤_, suc}
 use native.Mathlib.Omega.{arith}
 use lib.ListN.{length, drop}
 use Rattle.std.proofs.shelf.Lists.{take-rest, drop-all}
-use Rattle.sheets.specs.Text.{firstPart}
-use Rattle.sheets.proofs.text.after_first.Needs as need
+use Rattle.cuts.specs.Cut.{firstPart}
+use Rattle.cuts.proofs.cut.after_first.Needs as need
 
 pub returns-then-n-text : need.returns-then-n-text
 returns-then-n-text c =

@@ -2,8 +2,8 @@ use mathlib.Core.List.{[]}
 use mathlib.Core.Path.{_≡_}
 use Prim.Native.Nat.{_-_}
 use lib.ListN.{getD}
-use Rattle.sheets.specs.Text.{parts, fieldOf}
-use Rattle.sheets.proofs.text.field.Given as given
+use Rattle.cuts.specs.Cut.{parts, fieldOf}
+use Rattle.cuts.proofs.cut.field.Given as given
 
 -- what is left has the field, as many fields on as turns are left
 abbrev pub Inv-loop : given.InvT-loop

@@ -10,7 +10,7 @@ use lib.ListN.{length, getD, take, drop}
 use Rattle.std.proofs.shelf.Lists.{at-drop-more, at-drop-all, drop-all, length-drop}
 use Rattle.std.proofs.shelf.Tests.{cases-bool}
 use Rattle.std.proofs.shelf.Ways.{tells}
-use Rattle.sheets.specs.Text.{inFront, parts, has, firstPart, past}
+use Rattle.cuts.specs.Cut.{inFront, parts, has, firstPart, past}
 
 -- each law of a first part goes by whether the text begins with the separator
 le-by : (b : Bool) (x n : ℕ) (ys : List ℕ) → length ys ≤ n → length (cond b [] (x ∷ ys)) ≤ suc n
