@@ -2,7 +2,7 @@
 ghost use mathlib.Core.Path.{_≡_};
 ghost use lib.ListN.{length};
 ghost use Rattle.std.specs.declared.option.Option.the-variants.{None};
-ghost use Rattle.lists.specs.ListRows.{among, latest, lineRow, lines, listBeyond, listDisordered, listRow, listRules, listWhole, securities, securityRow};
+ghost use Rattle.lists.specs.ListRows.{among, latest, lineRow, lines, listRow, listRules, securities, securityRow};
 use cuts::cut::field;
 use cuts::cut::is_same;
 use cuts::cut::only_byte;

@@ -1,8 +1,7 @@
 -- The three layers of a sheet's reader: the lines of a text, the fields of a line, the rows of a sheet.
-use mathlib.Core.Bool.{Bool, true, false, cond, _||_}
+use mathlib.Core.Bool.{Bool, cond, _||_}
 use mathlib.Core.List.{List}
 use Prim.Native.Nat.{ℕ}
-use denote.Ref.{RefT}
 use lib.Dec.{leb}
 use lib.ListN.{length}
 use Rattle.std.specs.declared.result.Result.{Result}
@@ -40,8 +39,3 @@ abbrev pub placed : {Row : Type 0} → Rules Row → ℕ → List Row → Result
 placed rules slots seen (Ok row) =
     cond (rules .disordered seen row) (Err OutOfOrder) (cond (rules .beyond seen row || leb slots (length seen)) (Err TooMany) (Ok row))
 placed rules slots seen (Err fault) = Err (Field fault)
-
--- an answer that is lent, by what it refers to
-abbrev pub lent : {E : Type 0} → Result (RefT (List ℕ)) E → Result (List ℕ) E
-lent (Ok line) = Ok (line .now)
-lent (Err e) = Err e

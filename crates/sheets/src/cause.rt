@@ -1,5 +1,4 @@
-// Why a day sheet is refused. A day sheet is one of the two texts that a practice day is set up from: the list sheet names its
-// securities and lines, the book sheet the codes that its reports may carry.
+// Why a day sheet is refused.
 ghost use mathlib.Core.Path.{_≡_};
 ghost use Rattle.sheets.specs.Cause.{numberOf};
 

@@ -1,3 +1,4 @@
 pub mod Decimal
+pub mod Lent
 pub mod Printable
 pub mod Symbol

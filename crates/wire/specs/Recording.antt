@@ -2,7 +2,6 @@
 use mathlib.Core.Bool.{cond}
 use mathlib.Core.List.{List}
 use Prim.Native.Nat.{ℕ, _+_}
-use denote.Ref.{RefT}
 use lib.Dec.{leb}
 use lib.ListN.{length}
 use Rattle.std.specs.declared.result.Result.{Result}
@@ -22,8 +21,3 @@ frontFrame rest =
     cond (leb 2 (length rest))
     (cond (leb (2 + frameLength rest) (length rest)) (Ok (part 2 (2 + frameLength rest) rest)) (Err InFrame))
     (Err InLength)
-
--- an answer that is lent, by what it refers to
-abbrev pub lent : {E : Type 0} → Result (RefT (List ℕ)) E → Result (List ℕ) E
-lent (Ok frame) = Ok (frame .now)
-lent (Err e) = Err e

@@ -3,7 +3,8 @@ ghost use mathlib.Core.Path.{_≡_};
 ghost use Prim.Native.Nat.{_+_, _≤_};
 ghost use lib.ListN.{length};
 ghost use Rattle.std.specs.Vec.{made};
-ghost use Rattle.wire.specs.Recording.{frontFrame, lent};
+ghost use Rattle.text.specs.Lent.{lent};
+ghost use Rattle.wire.specs.Recording.{frontFrame};
 use crate::number::value_u16;
 
 // Where a recording stops short.

@@ -1,13 +1,25 @@
 // How a market list is made of the rows of a list sheet, and what it tells.
 ghost use mathlib.Core.Path.{_≡_};
 ghost use Prim.Native.Nat.{_≤_};
-ghost use lib.ListN.{length};
+ghost use lib.ListN.{length, take};
 ghost use Rattle.lists.specs.ListRows.{lines, securities};
 ghost use Rattle.lists.specs.Market.{MarketRows, atIndex};
 ghost use Rattle.lists.specs.Listed.{linesOf, securitiesOf};
 use crate::list_row::ListRow;
 use crate::market_list::MarketList;
 use text::symbol::Symbol;
+
+// What stands at an index of the places that are in use.
+fn entry<const N: usize>(room: &[[u8; N]], count: usize, index: usize) -> Option<[u8; N]>
+    requires { ⌜ length (take count (now room)) ≡ count ⌝ }
+    ensures { λ r. ⌜ r ≡ atIndex (take count (now (room .entry))) index ⌝ }
+{
+    if index < count {
+        Some(room[index])
+    } else {
+        None
+    }
+}
 
 impl MarketList {
     // Takes the rows that `read_list` has passed, so that nothing is left to refuse.
@@ -51,11 +63,7 @@ impl MarketList {
     pub fn symbol(&self, security: usize) -> Option<Symbol>
         ensures { λ r. ⌜ r ≡ atIndex (securitiesOf (now (self .entry))) security ⌝ }
     {
-        if security < self.symbol_count {
-            Some(self.symbols[security])
-        } else {
-            None
-        }
+        entry(&self.symbols, self.symbol_count, security)
     }
 
     pub fn line_count(&self) -> usize
@@ -69,10 +77,6 @@ impl MarketList {
     pub fn originator(&self, line: usize) -> Option<[u8; 2]>
         ensures { λ r. ⌜ r ≡ atIndex (linesOf (now (self .entry))) line ⌝ }
     {
-        if line < self.originator_count {
-            Some(self.originators[line])
-        } else {
-            None
-        }
+        entry(&self.originators, self.originator_count, line)
     }
 }
