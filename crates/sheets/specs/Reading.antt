@@ -27,7 +27,7 @@ abbrev pub step : {Row : Type 0} → Result Row SheetFault → List Row → (Lis
 step (Ok row) seen next = next (seen ++ (row ∷ []))
 step (Err fault) seen next = record { rows = seen; fault = Some fault }
 
--- the parts of a text at its bytes 10 are its lines, and then what stands past the last
+-- the parts of a text at its bytes 10 are its lines, and then what stands past the last; every text has a part
 unfoldable pub reading : {Row : Type 0} → Rules Row → ℕ → List Row → List (List ℕ) → Outcome Row
 reading rules slots seen [] = ended rules seen []
 reading rules slots seen (tail ∷ []) = ended rules seen tail
