@@ -1,5 +1,4 @@
 // Code books: which codes a trade report may carry, and which of them may go together.
 pub mod code_book;
-mod one_of;
 pub mod sheet_book;
 pub mod standard_book;

@@ -2,7 +2,7 @@
 ghost use mathlib.Core.Path.{_≡_};
 ghost use Rattle.books.specs.Standard.{reasons as reasonsOf, standardSets, values as valuesOf};
 use crate::code_book::CodeBook;
-use crate::one_of::is_one_of;
+use cuts::cut::contains;
 use sheets::bucket::Bucket;
 
 #[derive(Clone, Copy)]
@@ -34,22 +34,22 @@ pub impl CodeBook for StandardBook as StandardCodeBook {
     ghost sets = { λ _. standardSets };
 
     fn accepts_flag(&self, flag: u8) -> bool {
-        is_one_of(b"X ", flag)
+        contains(b"X ", flag)
     }
 
     fn accepts_side(&self, side: u8) -> bool {
-        is_one_of(b"BSXR", side)
+        contains(b"BSXR", side)
     }
 
     fn accepts_value(&self, bucket: Bucket, value: u8) -> bool {
-        is_one_of(values(bucket), value)
+        contains(values(bucket), value)
     }
 
     fn go_together(&self, flag: u8, condition: &[u8]) -> bool {
         condition.len() == 4
-            && is_one_of(values(Bucket::One), condition[0])
-            && is_one_of(reasons(flag), condition[1])
-            && is_one_of(values(Bucket::Three), condition[2])
-            && is_one_of(values(Bucket::Four), condition[3])
+            && contains(values(Bucket::One), condition[0])
+            && contains(reasons(flag), condition[1])
+            && contains(values(Bucket::Three), condition[2])
+            && contains(values(Bucket::Four), condition[3])
     }
 }
