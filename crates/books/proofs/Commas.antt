@@ -6,7 +6,8 @@ use Prim.Native.Nat.{ℕ}
 use Rattle.std.specs.shelf.Lists.{All}
 use Rattle.std.specs.Orderings.{Decides}
 use Rattle.std.proofs.shelf.Equals.{sameBytes-decides}
-use Rattle.codes.specs.BookRows.{amongRows, CommaFree, fieldsOf, sameRow}
+use Rattle.codes.specs.BookRows.{amongRows, fieldsOf, sameRow}
+use Rattle.codes.proofs.Commas.{CommaFree}
 use Rattle.cuts.specs.Cut.{has}
 use Rattle.codes.specs.declared.book_row.BookRow.{BookRow}
 use Rattle.books.specs.SheetSets.{Clean}

@@ -1,8 +1,8 @@
 // The code book that is lent the rows of a book sheet.
 ghost use mathlib.Core.Path.{_≡_};
 ghost use mathlib.Core.Bool.{true, false};
-ghost use Rattle.std.specs.shelf.Lists.{All};
-ghost use Rattle.codes.specs.BookRows.{CommaFree};
+ghost use Rattle.codes.specs.BookRows.{bookRules};
+ghost use Rattle.sheets.specs.Reading.{Faultless};
 ghost use Rattle.books.specs.SheetSets.{anyBarred, Clean, sheetSets};
 use crate::code_book::CodeBook;
 use codes::book_row::BookRow;
@@ -16,9 +16,9 @@ pub struct SheetBook<'a> {
 }
 
 impl<'a> SheetBook<'a> {
-    // Takes the rows that `read_book` has passed, so that nothing is left to refuse.
+    // Takes the rows of a faultless sheet, as `read_book` has just passed them, so that nothing is left to refuse.
     pub fn of_rows(rows: &'a [BookRow]) -> SheetBook<'a>
-        requires { ⌜ All CommaFree (now rows) ⌝ }
+        requires { ⌜ Faultless bookRules (now rows) ⌝ }
         ensures { λ r. ⌜ r .rows .now ≡ now (rows .entry) ⌝ }
     {
         SheetBook { rows }

@@ -24,9 +24,14 @@ use Rattle.sheets.specs.declared.fault.FieldFault.the-variants.{UnknownRow}
 use Rattle.cuts.specs.Cut.{inFront, parts, has, fieldOf, onlyByte}
 use Rattle.sheets.specs.Layers.{lineOf, rowIn}
 use Rattle.sheets.specs.Forms.{digitOf, printableBy, printableField, bucketField}
-use Rattle.codes.specs.BookRows.{flagRow, sideRow, valueRow, barredRow, bookRowBy, bookRow, bookRules, CommaFree}
+use Rattle.codes.specs.BookRows.{flagRow, sideRow, valueRow, barredRow, bookRowBy, bookRow, bookRules, fieldsOf}
 use Rattle.sheets.proofs.Formed.{choice-made, counted-made, then-made, formed-made, line-made}
-use Rattle.sheets.proofs.Passed.{Stands, Keeps}
+use Rattle.sheets.specs.Reading.{Faultless}
+use Rattle.sheets.proofs.Passed.{holds, Keeps, Stands}
+
+-- a row that names no comma (44)
+abbrev pub CommaFree : BookRow → Type 0
+CommaFree row = has 44 (fieldsOf row) ≡ false
 
 -- no part of a text has the separator
 lacks-by : (sep x : ℕ) (ps : List (List ℕ)) → eqb x sep ≡ false → All (λ p. has sep p ≡ false) ps → All (λ p. has sep p ≡ false) (inFront x ps)
@@ -119,7 +124,11 @@ row-by (Some letter) line =
     (choice-made CommaFree (eqb letter 67) _ _ (value-made line)
     (choice-made CommaFree (eqb letter 78) _ (Err UnknownRow) (barred-made line) tt)))
 
-pub book-keeps : Keeps bookRules (All CommaFree)
+book-keeps : Keeps bookRules (All CommaFree)
 book-keeps seen line row held s =
     all-push CommaFree seen row held
     (made-at-ok CommaFree (s .is) (line-made bookRules CommaFree (λ l. row-by (onlyByte (fieldOf 1 l)) l) (lineOf line)))
+
+-- no row of a faultless book sheet names a comma
+pub comma-free : (rows : List BookRow) → Faultless bookRules rows → All CommaFree rows
+comma-free rows f = holds bookRules (All CommaFree) tt book-keeps rows f .0

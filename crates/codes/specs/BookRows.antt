@@ -52,10 +52,6 @@ fieldsOf (Side side) = 68 ∷ side ∷ 0 ∷ []
 fieldsOf (Value bucket value) = 67 ∷ digitOf bucket ∷ value ∷ []
 fieldsOf (Barred flag value) = 78 ∷ flag ∷ value ∷ []
 
--- a row that names no comma (44), which parts the fields of what is written of a report
-abbrev pub CommaFree : BookRow → Type 0
-CommaFree row = has 44 (fieldsOf row) ≡ false
-
 abbrev pub sameRow : BookRow → BookRow → Bool
 sameRow one other = sameBytes (fieldsOf one) (fieldsOf other)
 

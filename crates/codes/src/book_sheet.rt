@@ -3,9 +3,8 @@ ghost use mathlib.Core.Path.{_≡_};
 ghost use Prim.Native.Nat.{_≤_};
 ghost use lib.ListN.{length, take};
 ghost use Rattle.std.specs.Vec.{made};
-ghost use Rattle.std.specs.shelf.Lists.{All};
-ghost use Rattle.codes.specs.BookRows.{bookRules, CommaFree};
-ghost use Rattle.sheets.specs.Reading.{sheetOf, tableAfter};
+ghost use Rattle.codes.specs.BookRows.{bookRules};
+ghost use Rattle.sheets.specs.Reading.{Faultless, sheetOf, tableAfter};
 ghost use Rattle.sheets.specs.Told.{answerOf};
 use crate::book_row::BookRow;
 use crate::book_row::BookSheet;
@@ -18,7 +17,7 @@ pub fn read_book(text: &[u8], table: &mut [BookRow]) -> Result<usize, Fault>
     ensures answer { λ r. ⌜ r ≡ answerOf (sheetOf bookRules (length (now (table .entry))) (now (text .entry))) ⌝ }
     ensures rows { λ _. ⌜ now (table .exit) ≡ tableAfter (sheetOf bookRules (length (now (table .entry))) (now (text .entry))) (now (table .entry)) ⌝ }
     ensures within { λ r. ⌜ made r (λ n. n ≤ length (now (table .entry))) ⌝ }
-    ensures commas { λ r. ⌜ made r (λ n. All CommaFree (take n (now (table .exit)))) ⌝ }
+    ensures faultless { λ r. ⌜ made r (λ n. Faultless bookRules (take n (now (table .exit)))) ⌝ }
 {
     read(text, table)
 }

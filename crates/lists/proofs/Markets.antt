@@ -25,9 +25,10 @@ use Rattle.cuts.specs.Cut.{fieldOf, onlyByte}
 use Rattle.sheets.specs.Layers.{lineOf, rowIn}
 use Rattle.sheets.specs.Forms.{allVisible, symbolBy, symbolField, originatorBy, originatorField}
 use Rattle.lists.specs.ListRows.{securityRow, lineRow, listRowBy, listRow, securities, lines, latest, ascends, among, listRules, listWhole}
-use Rattle.lists.specs.Market.{ascendFrom, distinct, allLong, MarketRows}
+use Rattle.lists.specs.Market.{ascendFrom, distinct, allLong, OriginatorList, SymbolList}
 use Rattle.sheets.proofs.Formed.{choice-made, counted-made, then-made, formed-made, line-made}
-use Rattle.sheets.proofs.Passed.{Stands, Keeps}
+use Rattle.sheets.specs.Reading.{Faultless}
+use Rattle.sheets.proofs.Passed.{holds, Keeps, Stands}
 
 -- the rows so far: a market but that it may have no security or no line yet
 pub record Sound (symbols originators : List (List ℕ)) : Type 0 where
@@ -162,7 +163,12 @@ list-keeps seen line row held st =
     (made-at-ok Sized (st .is) (line-made listRules Sized (λ l. row-by (onlyByte (fieldOf 1 l)) l) (lineOf line)))
 
 -- with a security and a line, a market
-pub market : (rows : List ListRow) → SoundRows rows → listWhole rows ≡ true → MarketRows rows
+-- rows that are a market
+pub record MarketRows (rows : List ListRow) : Type 0 where
+  pub symbols : SymbolList (securities rows)
+  pub originators : OriginatorList (lines rows)
+
+market : (rows : List ListRow) → SoundRows rows → listWhole rows ≡ true → MarketRows rows
 market rows s w =
     let xs = securities rows in
     let ys = lines rows in
@@ -171,3 +177,7 @@ market rows s w =
       symbols = (leb-true 1 (length xs) (p .0), s .fewSymbols, s .ascending, s .elevenBytes);
       originators = (leb-true 1 (length ys) (p .1), s .fewOriginators, s .noneTwice, s .twoBytes);
     }
+
+-- the rows of a faultless list sheet are a market
+pub market-of : (rows : List ListRow) → Faultless listRules rows → MarketRows rows
+market-of rows f = let h = holds listRules SoundRows none-sound list-keeps rows f in market rows (h .0) (h .1)

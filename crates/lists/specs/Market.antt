@@ -32,11 +32,6 @@ SymbolList symbols = (1 ≤ length symbols) × (length symbols ≤ 256) × (asce
 abbrev pub OriginatorList : List (List ℕ) → Type 0
 OriginatorList originators = (1 ≤ length originators) × (length originators ≤ 16) × (distinct originators ≡ true) × (allLong 2 originators ≡ true)
 
--- rows that are a market
-pub record MarketRows (rows : List ListRow) : Type 0 where
-  pub symbols : SymbolList (securities rows)
-  pub originators : OriginatorList (lines rows)
-
 -- what stands at an index, if anything does
 abbrev pub atIndex : List (List ℕ) → ℕ → Option (List ℕ)
 atIndex [] index = None

@@ -4,8 +4,7 @@ ghost use Prim.Native.Nat.{_≤_};
 ghost use lib.ListN.{length, take};
 ghost use Rattle.std.specs.Vec.{made};
 ghost use Rattle.lists.specs.ListRows.{listRules};
-ghost use Rattle.lists.specs.Market.{MarketRows};
-ghost use Rattle.sheets.specs.Reading.{sheetOf, tableAfter};
+ghost use Rattle.sheets.specs.Reading.{Faultless, sheetOf, tableAfter};
 ghost use Rattle.sheets.specs.Told.{answerOf};
 use crate::list_row::ListRow;
 use crate::list_row::ListSheet;
@@ -18,7 +17,7 @@ pub fn read_list(text: &[u8], table: &mut [ListRow]) -> Result<usize, Fault>
     ensures answer { λ r. ⌜ r ≡ answerOf (sheetOf listRules (length (now (table .entry))) (now (text .entry))) ⌝ }
     ensures rows { λ _. ⌜ now (table .exit) ≡ tableAfter (sheetOf listRules (length (now (table .entry))) (now (text .entry))) (now (table .entry)) ⌝ }
     ensures within { λ r. ⌜ made r (λ n. n ≤ length (now (table .entry))) ⌝ }
-    ensures market { λ r. ⌜ made r (λ n. MarketRows (take n (now (table .exit)))) ⌝ }
+    ensures faultless { λ r. ⌜ made r (λ n. Faultless listRules (take n (now (table .exit)))) ⌝ }
 {
     read(text, table)
 }

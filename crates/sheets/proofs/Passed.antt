@@ -18,7 +18,7 @@ use Rattle.sheets.specs.declared.fault.SheetFault.{SheetFault}
 use Rattle.sheets.specs.declared.fault.SheetFault.the-variants.{Field, OutOfOrder, TooMany, Incomplete}
 use Rattle.cuts.specs.Cut.{parts}
 use Rattle.sheets.specs.Layers.{Rules, lineOf, rowIn, placed}
-use Rattle.sheets.specs.Reading.{Outcome, ended, step, reading, sheetOf, tableAfter}
+use Rattle.sheets.specs.Reading.{Faultless, Outcome, ended, step, reading, sheetOf, tableAfter}
 use Rattle.sheets.specs.Told.{answerBy, answerOf, toldOf}
 
 -- a row that is placed is the line's, in order, and not one too many
@@ -74,12 +74,18 @@ ok-by : (fault : Option SheetFault) (n m : ℕ) → Ok n ≡ answerBy fault m �
 ok-by None n m e = (refl, cc)
 ok-by (Some fault) n m e = let z : _≡_ {A = ℕ} 0 1 = cc in absurd (omega arith)
 
--- so it holds of the rows that a reader which passes the sheet leaves in the table
-pub passed : {Row : Type 0} (rules : Rules Row) (P : List Row → Type 0) → P [] → Keeps rules P → (text : List ℕ) (before table : List Row) (r : Result ℕ Fault) → r ≡ answerOf (sheetOf rules (length before) text) → table ≡ tableAfter (sheetOf rules (length before) text) before → made r (λ n. P (take n table) × (rules .whole (take n table) ≡ true))
-passed {Row} rules P none keeps text before table (Err fault) e t = tt
-passed {Row} rules P none keeps text before table (Ok n) e t =
+-- the rows that a reader which passes a sheet leaves in the table are a faultless sheet's
+pub faultless : {Row : Type 0} (rules : Rules Row) (text : List ℕ) (before table : List Row) (r : Result ℕ Fault) → r ≡ answerOf (sheetOf rules (length before) text) → table ≡ tableAfter (sheetOf rules (length before) text) before → made r (λ n. Faultless rules (take n table))
+faultless rules text before table (Err fault) e t = tt
+faultless rules text before table (Ok n) e t =
     let o = sheetOf rules (length before) text in
-    let k = kept rules P keeps (length before) [] (parts 10 text) none in
     let ok = ok-by (o .fault) n (length (o .rows)) e in
     let front : take n table ≡ o .rows = ap (take n) t ∙ take-at (o .rows) (drop (length (o .rows)) before) n (ok .1) in
-    (subst P (sym front) (k .all), ap (rules .whole) front ∙ k .whole (ok .0))
+    record { text = text; slots = length before; is = λ i. record { rows = sym front i; fault = ok .0 i } }
+
+-- what holds of no rows, and of one row more, holds of a faultless sheet's; and they are a whole sheet
+pub holds : {Row : Type 0} (rules : Rules Row) (P : List Row → Type 0) → P [] → Keeps rules P → (rows : List Row) → Faultless rules rows → P rows × (rules .whole rows ≡ true)
+holds rules P none keeps rows f =
+    let k = kept rules P keeps (f .slots) [] (parts 10 (f .text)) none in
+    let same : sheetOf rules (f .slots) (f .text) .rows ≡ rows = ap (λ o. o .rows) (f .is) in
+    (subst P same (k .all), sym (ap (rules .whole) same) ∙ k .whole (ap (λ o. o .fault) (f .is)))

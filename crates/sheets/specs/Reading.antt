@@ -1,6 +1,7 @@
 -- A sheet read whole: the rows before its first fault, and the fault.
 use mathlib.Core.Bool.{Bool, true, false, cond}
 use mathlib.Core.List.{List, [], _∷_, _++_}
+use mathlib.Core.Path.{_≡_}
 use Prim.Native.Nat.{ℕ, _+_}
 use lib.ListN.{length, drop}
 use Rattle.std.specs.declared.option.Option.{Option}
@@ -40,3 +41,9 @@ sheetOf rules slots text = reading rules slots [] (parts 10 text)
 -- what a table of slots holds after a reading: the rows, a slot each in order, and every other slot as it was
 abbrev pub tableAfter : {Row : Type 0} → Outcome Row → List Row → List Row
 tableAfter outcome table = outcome .rows ++ drop (length (outcome .rows)) table
+
+-- rows that are the whole of a faultless sheet: some text, with some number of slots, is read as them
+pub record Faultless {Row : Type 0} (rules : Rules Row) (rows : List Row) : Type 0 where
+  pub text : List ℕ
+  pub slots : ℕ
+  pub is : sheetOf rules slots text ≡ record { rows = rows; fault = None }

@@ -2,8 +2,9 @@
 ghost use mathlib.Core.Path.{_≡_};
 ghost use Prim.Native.Nat.{_≤_};
 ghost use lib.ListN.{length, take};
-ghost use Rattle.lists.specs.ListRows.{lines, securities};
-ghost use Rattle.lists.specs.Market.{MarketRows, atIndex};
+ghost use Rattle.lists.specs.ListRows.{lines, listRules, securities};
+ghost use Rattle.lists.specs.Market.{atIndex};
+ghost use Rattle.sheets.specs.Reading.{Faultless};
 ghost use Rattle.lists.specs.Listed.{linesOf, securitiesOf};
 use crate::list_row::ListRow;
 use crate::market_list::MarketList;
@@ -22,9 +23,9 @@ fn entry<const N: usize>(room: &[[u8; N]], count: usize, index: usize) -> Option
 }
 
 impl MarketList {
-    // Takes the rows that `read_list` has passed, so that nothing is left to refuse.
+    // Takes the rows of a faultless sheet, as `read_list` has just passed them, so that nothing is left to refuse.
     pub fn of_rows(rows: &[ListRow]) -> MarketList
-        requires { ⌜ MarketRows (now rows) ⌝ }
+        requires { ⌜ Faultless listRules (now rows) ⌝ }
         ensures symbols { λ r. ⌜ securitiesOf r ≡ securities (now (rows .entry)) ⌝ }
         ensures originators { λ r. ⌜ linesOf r ≡ lines (now (rows .entry)) ⌝ }
     {
