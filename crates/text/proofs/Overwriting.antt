@@ -7,7 +7,7 @@ use native.Mathlib.Omega.{arith}
 use borrow.Rule.Slice.PartMut.{putMid}
 use lib.ListN.{length, getD, set, take, drop, length-drop}
 use Rattle.std.proofs.shelf.Lists.{append-assoc, drop-drop, drop-more, set-at, take-append-drop, take-at, drop-at, length-append, length-take-le}
-use Rattle.text.specs.Decimal.{overwritten}
+use Rattle.text.specs.Buffer.{overwritten}
 
 pub overwritten-none : (buffer : List ℕ) (at : ℕ) → buffer ≡ overwritten buffer at []
 overwritten-none buffer at = sym (take-append-drop at buffer) ∙ ap (λ k. take at buffer ++ drop k buffer) (sym (add-zero at))

@@ -1,4 +1,4 @@
-pub mod Decimal
+pub mod Buffer
 pub mod Lent
 pub mod Printable
 pub mod Symbol

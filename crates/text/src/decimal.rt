@@ -3,7 +3,7 @@ ghost use mathlib.Core.Path.{_≡_};
 ghost use Prim.Native.Nat.{_+_, _≤_};
 ghost use lib.ListN.{length};
 ghost use Rattle.std.specs.Written.{decimal};
-ghost use Rattle.text.specs.Decimal.{overwritten, pastText, withText};
+ghost use Rattle.text.specs.Buffer.{overwritten, pastText, withText};
 
 // How many digits a number has.
 fn digit_count(n: u64) -> usize

@@ -23,7 +23,7 @@ use Rattle.wire.specs.declared.trade_report.TradeReport.{TradeReport}
 use Rattle.wire.proofs.Fields.{Left, field-at, number-at, byte-at, past-field, Joined, join, number-again, byte-again}
 use Rattle.wire.proofs.Numbers.{length-bytes}
 use Rattle.text.proofs.Overwriting.{overwritten-more}
-use Rattle.text.specs.Decimal.{overwritten}
+use Rattle.text.specs.Buffer.{overwritten}
 
 header-again : (frame : List ℕ) → length frame ≡ 72 → All (λ b. b < 256) frame → codes "1TE" ≡ part 0 3 frame → headerBytes (fieldsOf frame) ≡ part 0 29 frame
 header-again frame long bytes head =

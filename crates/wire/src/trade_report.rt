@@ -4,7 +4,7 @@ ghost use Prim.Native.Nat.{_≤_};
 ghost use lib.ListN.{length, take};
 ghost use Rattle.std.specs.Vec.{made};
 ghost use Rattle.std.specs.declared.result.Result.the-variants.{Ok};
-ghost use Rattle.text.specs.Decimal.{overwritten};
+ghost use Rattle.text.specs.Buffer.{overwritten};
 ghost use Rattle.wire.specs.TradeReport.{fieldsOf, frameOf, headerBytes, refusalNumber, reportIn, tradeBytes, TypedHeader, TypedTrade, writing, written};
 use crate::header::HeaderRow;
 use crate::header::check_header;

@@ -4,7 +4,7 @@ use Prim.Native.Nat.{_+_, _/_, _%_}
 use native.Mathlib.Omega.{arith}
 use Rattle.std.specs.Written.{decimal}
 use Rattle.std.proofs.shelf.Decimals.{decimal-digit, decimal-step}
-use Rattle.text.specs.Decimal.{overwritten}
+use Rattle.text.specs.Buffer.{overwritten}
 use Rattle.text.proofs.Digits.{one-digit, digit-more}
 use Rattle.text.proofs.Overwriting.{Written, begun, then-byte}
 use Rattle.text.proofs.decimal.+put_digits.Needs as need
