@@ -9,14 +9,14 @@ returns-in-Some g c =
     let rows = g.K.Kind.rows (g.B.CodeBook.sets c.args.book.now) c.args.context.now c.args.frame.now in
     let n = g.met.K.Kind.counted (g.B.CodeBook.sets c.args.book.now) c.args.context.now c.args.frame.now in
     let h : c.loop-index.index < length rows = omega (arith, n) in
-    sym (stops rows c.loop-index.index _ _ h (sym c.try-row.ensures ∙ c.in-Some.is)) ∙ c.loop-index.invariant
+    sym (stops rows c.loop-index.index _ _ h (sym c.try_row.ensures ∙ c.in-Some.is)) ∙ c.loop-index.invariant
 
 pub loop-index-preserved : goal.loop-index-preserved
 loop-index-preserved g c =
     let rows = g.K.Kind.rows (g.B.CodeBook.sets c.args.book.now) c.args.context.now c.args.frame.now in
     let n = g.met.K.Kind.counted (g.B.CodeBook.sets c.args.book.now) c.args.context.now c.args.frame.now in
     let h : c.loop-index.index < length rows = omega (arith, n) in
-    sym (goes rows c.loop-index.index _ h (sym c.try-row.ensures ∙ c.in-default.is)) ∙ c.loop-index.invariant
+    sym (goes rows c.loop-index.index _ h (sym c.try_row.ensures ∙ c.in_default.is)) ∙ c.loop-index.invariant
 
 pub returns : goal.returns
 returns g c =

@@ -3,11 +3,11 @@ use Rattle.std.proofs.lemmas.List.{at_drop_more, at_drop_all}
 use Rattle.scripts.specs.Hex.{all_hex}
 use Rattle.scripts.proofs.hex.all_digits.Goals as goal
 
-pub returns-then-not-is-digit : goal.returns-then-not-is-digit
-returns-then-not-is-digit c =
+pub returns-then-not-is_digit : goal.returns-then-not-is_digit
+returns-then-not-is_digit c =
     let word = c.args.word.now in
     let i = c.loop-byte.byte-index in
-    ap (λ b. b && all_hex (drop (i + 1) word)) c.if-not-is-digit.ensures
+    ap (λ b. b && all_hex (drop (i + 1) word)) c.if-not-is_digit.ensures
     ∙ sym (at_drop_more all_hex word i 0 c.loop-byte-test.true)
     ∙ c.loop-byte.invariant
 
@@ -15,7 +15,7 @@ pub loop-byte-preserved : goal.loop-byte-preserved
 loop-byte-preserved c =
     let word = c.args.word.now in
     let i = c.loop-byte.byte-index in
-    ap (λ b. b && all_hex (drop (i + 1) word)) c.if-not-is-digit.ensures
+    ap (λ b. b && all_hex (drop (i + 1) word)) c.if-not-is_digit.ensures
     ∙ sym (at_drop_more all_hex word i 0 c.loop-byte-test.true)
     ∙ c.loop-byte.invariant
 

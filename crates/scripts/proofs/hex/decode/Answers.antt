@@ -14,11 +14,11 @@ held word buffer b = cond b (pairs word ++ drop (length (pairs word)) buffer) bu
 abbrev fits : List ℕ → List ℕ → Bool
 fits word buffer = leb (length (pairs word)) (length buffer)
 
-pub returns-then-not-is-hex : goal.returns-then-not-is-hex
-returns-then-not-is-hex c =
+pub returns-then-not-is_hex : goal.returns-then-not-is_hex
+returns-then-not-is_hex c =
     let word = c.args.word.now in
     let buffer = c.args.frame.now in
-    let no = and_left (is_frame word) (fits word buffer) (sym c.if-not-is-hex.ensures) in
+    let no = and_left (is_frame word) (fits word buffer) (sym c.if-not-is_hex.ensures) in
     record { answer = ap (told word) (sym no); after = ap (held word buffer) (sym no) }
 
 pub returns-then-frame-size : goal.returns-then-frame-size
@@ -28,15 +28,15 @@ returns-then-frame-size c =
     let no = and_right (is_frame word) (fits word buffer) (lt-leb _ _ (omega (arith, length_pairs word))) in
     record { answer = ap (told word) (sym no); after = ap (held word buffer) (sym no) }
 
-pub place-pairs-requires : goal.place-pairs-requires
-place-pairs-requires c = omega (arith, length_pairs c.args.word.now)
+pub place_pairs-requires : goal.place_pairs-requires
+place_pairs-requires c = omega (arith, length_pairs c.args.word.now)
 
 pub returns : goal.returns
 returns c =
     let word = c.args.word.now in
     let buffer = c.args.frame.now in
-    let yes = and_from (is_frame word) (fits word buffer) (sym c.if-not-is-hex.ensures) (le-leb _ _ (omega (arith, length_pairs word))) in
+    let yes = and_from (is_frame word) (fits word buffer) (sym c.if-not-is_hex.ensures) (le-leb _ _ (omega (arith, length_pairs word))) in
     record {
       answer = ap (λ k. Some k) (sym (length_pairs word)) ∙ ap (told word) (sym yes);
-      after = c.place-pairs.ensures ∙ ap (held word buffer) (sym yes);
+      after = c.place_pairs.ensures ∙ ap (held word buffer) (sym yes);
     }

@@ -9,10 +9,10 @@ pub loop-i-preserved : goal.loop-i-preserved
 loop-i-preserved c =
     let word = c.args.word.now in
     let i = c.loop-i.i in
-    let high = c.digit-value.result in
-    let low = c.digit-value-in-loop-i.result in
+    let high = c.digit_value.result in
+    let low = c.digit_value-in-loop-i.result in
     let is : high * 16 + low ≡ byte_at i word =
-    omega (arith, c.digit-value.ensures.value, c.digit-value-in-loop-i.ensures.value) in
+    omega (arith, c.digit_value.ensures.value, c.digit_value-in-loop-i.ensures.value) in
     placed_more (high * 16 + low) c.loop-i.invariant (omega arith) (omega (arith, length_pairs word)) is
 
 pub returns : goal.returns

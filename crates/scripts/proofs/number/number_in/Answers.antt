@@ -20,9 +20,9 @@ told word r e = record {
 prefixed : (word : List ℕ) → (eqb (get_or word 0 0) 43 || leading_zero word) ≡ true → None ≡ number_in word
 prefixed word h = elim (or_cases (eqb (get_or word 0 0) 43) (leading_zero word) h) [ inl e ↦ after_sign word e | inr e ↦ after_zero word e ]
 
-pub returns-then-has-prefix : goal.returns-then-has-prefix
-returns-then-has-prefix c =
-    let t = told c.args.word.now None (prefixed c.args.word.now (sym c.if-has-prefix.ensures)) in
+pub returns-then-has_prefix : goal.returns-then-has_prefix
+returns-then-has_prefix c =
+    let t = told c.args.word.now None (prefixed c.args.word.now (sym c.if-has_prefix.ensures)) in
     record { value = t.value; written = t.written; every = t.every }
 
 pub returns-in-Ok : goal.returns-in-Ok
@@ -30,7 +30,7 @@ returns-in-Ok c =
     let word = c.args.word.now in
     let text = c.in-Ok.text.now in
     let same : text ≡ word = c.in-Ok.ensures.cases.0 in
-    let none = or_parts (eqb (get_or word 0 0) 43) (leading_zero word) (sym c.if-has-prefix.ensures) in
+    let none = or_parts (eqb (get_or word 0 0) 43) (leading_zero word) (sym c.if-has_prefix.ensures) in
     let read = subst (λ bs. ParsesUnsigned 64 10 bs c.parse.result) same c.parse.ensures.value.0 in
     let t = told word c.ok.result (c.ok.ensures.value ∙ parsed word c.parse.result read (eqb-false (get_or word 0 0) 43 none.0) none.1) in
     record { value = t.value; written = t.written; every = t.every }

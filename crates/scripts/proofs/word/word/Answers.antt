@@ -8,7 +8,7 @@ loop-preserved c =
     let rest = c.loop.rest.now in
     let left = c.args.number - (c.loop.counter + 1) in
     let one : c.args.number - c.loop.counter ≡ suc left = omega arith in
-    ap (λ xs. get_or (parts 32 xs) left []) c.after-first-rest.ensures
+    ap (λ xs. get_or (parts 32 xs) left []) c.after_first-rest.ensures
     ∙ sym (part_suc 32 rest left)
     ∙ ap (λ k. get_or (parts 32 rest) k []) (sym one)
     ∙ c.loop.invariant
@@ -17,7 +17,7 @@ pub returns : goal.returns
 returns c =
     let rest = c.loop.rest.now in
     let none : 0 ≡ c.args.number - c.loop.counter = omega arith in
-    c.first-part.ensures
+    c.first_part.ensures
     ∙ sym (part_zero 32 rest)
     ∙ ap (λ k. get_or (parts 32 rest) k []) none
     ∙ c.loop.invariant

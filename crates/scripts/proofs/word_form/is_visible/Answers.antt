@@ -3,16 +3,16 @@ use Rattle.cuts.specs.Cut.{has}
 use Rattle.scripts.proofs.Visible.{visible_is}
 use Rattle.scripts.proofs.word_form.is_visible.Goals as goal
 
-pub returns-then-all-printable : goal.returns-then-all-printable
-returns-then-all-printable c =
+pub returns-then-all_printable : goal.returns-then-all_printable
+returns-then-all_printable c =
     let word = c.args.word.now in
     ap not c.contains.ensures
-    ∙ ap (λ b. b && not (has 32 word)) c.if-all-printable.ensures
+    ∙ ap (λ b. b && not (has 32 word)) c.if-all_printable.ensures
     ∙ sym (visible_is word)
 
-pub returns-else-all-printable : goal.returns-else-all-printable
-returns-else-all-printable c =
+pub returns-else-all_printable : goal.returns-else-all_printable
+returns-else-all_printable c =
     let word = c.args.word.now in
-    c.if-all-printable.false
-    ∙ ap (λ b. b && not (has 32 word)) c.if-all-printable.ensures
+    c.if-all_printable.false
+    ∙ ap (λ b. b && not (has 32 word)) c.if-all_printable.ensures
     ∙ sym (visible_is word)

@@ -13,5 +13,5 @@ pub returns : goal.returns
 returns c =
     let text = c.field-text.result.now in
     let long : length text ≡ 2 = omega arith in
-    two c.args.number text long c.if-not-all-visible.ensures
+    two c.args.number text long c.if-not-all_visible.ensures
     ∙ ap (λ t. formed c.args.number (originator_by t)) c.field-text.ensures

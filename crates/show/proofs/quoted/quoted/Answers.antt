@@ -11,7 +11,7 @@ pub loop-byte-preserved : goal.loop-byte-preserved
 loop-byte-preserved c =
     let bytes = c.args.bytes.now in
     let i = c.loop-byte.byte-index in
-    c.in-ok-push-escaped.ensures
+    c.in-ok-push_escaped.ensures
     ∙ ap (λ u. u ++ escaped (get_or bytes i 0)) c.loop-byte.invariant
     ∙ escaped_more (codes "\"") bytes i c.loop-byte-test.true
 

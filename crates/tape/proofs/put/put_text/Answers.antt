@@ -8,5 +8,5 @@ unfolding laid
 returns c =
     record {
       past = refl;
-      after = (then_part _ c.args.text.now (begun c.args.buffer.now c.args.at) (omega arith) c.copy-from-slice.ensures.after (omega arith)).is;
+      after = (then_part _ c.args.text.now (begun c.args.buffer.now c.args.at) (omega arith) c.copy_from_slice.ensures.after (omega arith)).is;
     }

@@ -10,15 +10,15 @@ pub returns : goal.returns
 returns c =
     let old = c.args.buffer.now in
     let serial = c.args.serial in
-    let time = c.args.sip-time in
+    let time = c.args.sip_time in
     let r = c.args.report.now in
     let line = tape_line serial time r in
-    let origin = c.put-origin-at.ensures in
-    let terms = c.put-terms-at.ensures in
-    let deal = c.put-deal.ensures in
+    let origin = c.put_origin-at.ensures in
+    let terms = c.put_terms-at.ensures in
+    let deal = c.put_deal.ensures in
     let w = whole_line serial time r old _ _ _ _ _ _ origin.past origin.after terms.past terms.after deal.past deal.after in
-    let written : take c.put-deal.result c.put-deal.new.buffer ≡ line =
-    ap (take c.put-deal.result) w.1 ∙ take_at line (drop (length line) old) c.put-deal.result (sym w.0) in
+    let written : take c.put_deal.result c.put_deal.new.buffer ≡ line =
+    ap (take c.put_deal.result) w.1 ∙ take_at line (drop (length line) old) c.put_deal.result (sym w.0) in
     record {
       past = w.0;
       within = omega arith;

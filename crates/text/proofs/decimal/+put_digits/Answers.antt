@@ -20,14 +20,14 @@ returns-then-n-lt10 t c =
           ∙ ap (overwritten old at) (sym (decimal_digit n c.if-n-lt10.true));
     }
 
-pub put-digits-last-requires : goal.put-digits-last-requires
-put-digits-last-requires t c = (omega (arith, c.decreases), omega (arith, digit_more c.args.n c.if-n-lt10.false (omega arith)))
+pub put_digits-last-requires : goal.put_digits-last-requires
+put_digits-last-requires t c = (omega (arith, c.decreases), omega (arith, digit_more c.args.n c.if-n-lt10.false (omega arith)))
 
 pub bounds-buffer-last : goal.bounds-buffer-last
 bounds-buffer-last t c = omega (arith, digit_more c.args.n c.if-n-lt10.false (omega arith))
 
-pub overflow-add-result-2 : goal.overflow-add-result-2
-overflow-add-result-2 t c = omega (arith, digit_more c.args.n c.if-n-lt10.false (omega arith))
+pub overflow_add-result-2 : goal.overflow_add-result-2
+overflow_add-result-2 t c = omega (arith, digit_more c.args.n c.if-n-lt10.false (omega arith))
 
 pub returns : goal.returns
 returns t c =
@@ -35,7 +35,7 @@ returns t c =
     let at = c.args.at in
     let old = c.args.buffer.now in
     let more = digit_more n c.if-n-lt10.false (omega arith) in
-    let p = c.put-digits-last in
+    let p = c.put_digits-last in
     let so_far : Written old at p.result (decimal (n / 10)) p.new.buffer = record { is = p.ensures.after; long = p.ensures.past } in
     record {
       past = omega (arith, more);

@@ -4,12 +4,12 @@ use Rattle.std.proofs.lemmas.Bool.{eq-eqb, ne_eqb}
 use Rattle.text.specs.Printable.{all_printable}
 use Rattle.text.proofs.printable.printable_front.Goals as goal
 
-pub returns-then-not-is-printable : goal.returns-then-not-is-printable
-returns-then-not-is-printable c =
+pub returns-then-not-is_printable : goal.returns-then-not-is_printable
+returns-then-not-is_printable c =
     let part = c.args.part.now in
     let i = c.loop-i.i in
     ne_eqb i (length part) (omega arith)
-    ∙ ap (λ b. b && all_printable (drop (i + 1) part)) c.if-not-is-printable.ensures
+    ∙ ap (λ b. b && all_printable (drop (i + 1) part)) c.if-not-is_printable.ensures
     ∙ sym (at_drop_more all_printable part i 0 (omega arith))
     ∙ c.loop-i.invariant
 
@@ -17,7 +17,7 @@ pub loop-i-preserved : goal.loop-i-preserved
 loop-i-preserved c =
     let part = c.args.part.now in
     let i = c.loop-i.i in
-    ap (λ b. b && all_printable (drop (i + 1) part)) c.if-not-is-printable.ensures
+    ap (λ b. b && all_printable (drop (i + 1) part)) c.if-not-is_printable.ensures
     ∙ sym (at_drop_more all_printable part i 0 (omega arith))
     ∙ c.loop-i.invariant
 

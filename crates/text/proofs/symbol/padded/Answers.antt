@@ -9,7 +9,7 @@ returns c =
     let n = length text in
     let fits = and_from (leb 1 n) (leb n 11) (le-leb 1 n c.if-n-lt1.false) (le-leb n 11 c.if-n-gt11.false) in
     let whole : n - 0 ≡ n = omega arith in
-    ap (λ u. Some (u ++ drop (n - 0) (replicate 11 32))) c.copy-from-slice.ensures.after
+    ap (λ u. Some (u ++ drop (n - 0) (replicate 11 32))) c.copy_from_slice.ensures.after
     ∙ ap (λ k. Some (text ++ drop k (replicate 11 32))) whole
     ∙ ap (λ u. Some (text ++ u)) (drop-replicate n 11 32)
     ∙ ap (λ b. cond b (Some (text ++ replicate (11 - n) 32)) None) (sym fits)

@@ -5,4 +5,4 @@ use Rattle.wire.proofs.number.value_u16.Goals as goal
 
 pub returns : goal.returns
 unfolding value_after value_of
-returns c = value_read 2 c.args.part.now c.from-be-bytes.result c.requires (omega arith)
+returns c = value_read 2 c.args.part.now c.from_be_bytes.result c.requires (omega arith)

@@ -9,27 +9,27 @@ use Rattle.lists.proofs.Steps.{at_known}
 use Rattle.lists.proofs.market_list.MarketList.of_rows.Goals as goal
 use Rattle.lists.proofs.market_list.MarketList.of_rows.Goals.{in-Security, in-Line}
 
-pub bounds-symbols-symbol-count : goal.bounds-symbols-symbol-count
-bounds-symbols-symbol-count c =
+pub bounds-symbols-symbol_count : goal.bounds-symbols-symbol_count
+bounds-symbols-symbol_count c =
     let s = at_known securities c.args.rows.now c.loop-row.row-index (Security []) _ c.loop-row-test.true c.in-Security.is in
     filled_fits c.loop-row.invariant.0 _ _ s (market_of c.args.rows.now c.requires).symbols.1
 
-pub bounds-originators-originator-count : goal.bounds-originators-originator-count
-bounds-originators-originator-count c =
+pub bounds-originators-originator_count : goal.bounds-originators-originator_count
+bounds-originators-originator_count c =
     let l = at_known lines c.args.rows.now c.loop-row.row-index (Security []) _ c.loop-row-test.true c.in-Line.is in
     filled_fits c.loop-row.invariant.1 _ _ l (market_of c.args.rows.now c.requires).originators.1
 
-pub offset-bounds-symbols-symbol-count : goal.offset-bounds-symbols-symbol-count
-offset-bounds-symbols-symbol-count c = let market = market_of c.args.rows.now c.requires in search rules
+pub offset_bounds-symbols-symbol_count : goal.offset_bounds-symbols-symbol_count
+offset_bounds-symbols-symbol_count c = let market = market_of c.args.rows.now c.requires in search rules
 
-pub overflow-add-symbol-count : goal.overflow-add-symbol-count
-overflow-add-symbol-count c = let market = market_of c.args.rows.now c.requires in search rules
+pub overflow_add-symbol_count : goal.overflow_add-symbol_count
+overflow_add-symbol_count c = let market = market_of c.args.rows.now c.requires in search rules
 
-pub offset-bounds-originators-originator-count : goal.offset-bounds-originators-originator-count
-offset-bounds-originators-originator-count c = let market = market_of c.args.rows.now c.requires in search rules
+pub offset_bounds-originators-originator_count : goal.offset_bounds-originators-originator_count
+offset_bounds-originators-originator_count c = let market = market_of c.args.rows.now c.requires in search rules
 
-pub overflow-add-originator-count : goal.overflow-add-originator-count
-overflow-add-originator-count c = let market = market_of c.args.rows.now c.requires in search rules
+pub overflow_add-originator_count : goal.overflow_add-originator_count
+overflow_add-originator_count c = let market = market_of c.args.rows.now c.requires in search rules
 
 pub loop-row-preserved : goal.loop-row-preserved
 loop-row-preserved c =
@@ -41,19 +41,19 @@ loop-row-preserved c =
       | in-Security w ↦
           let s = at_known securities rows i (Security []) _ here w.in-Security.is in
           let l = at_known lines rows i (Security []) _ here w.in-Security.is in (
-            filled_at _ _ w.symbols-is w.symbol-count-is (filled_more held.0 _ _ s (market_of c.args.rows.now c.requires).symbols.1),
-            filled_at _ _ w.originators-is w.originator-count-is (filled_same held.1 _ l),
+            filled_at _ _ w.symbols-is w.symbol_count-is (filled_more held.0 _ _ s (market_of c.args.rows.now c.requires).symbols.1),
+            filled_at _ _ w.originators-is w.originator_count-is (filled_same held.1 _ l),
           )
       | in-Line w ↦
           let s = at_known securities rows i (Security []) _ here w.in-Line.is in
           let l = at_known lines rows i (Security []) _ here w.in-Line.is in (
-            filled_at _ _ w.symbols-is w.symbol-count-is (filled_same held.0 _ s),
-            filled_at _ _ w.originators-is w.originator-count-is (filled_more held.1 _ _ l (market_of c.args.rows.now c.requires).originators.1),
+            filled_at _ _ w.symbols-is w.symbol_count-is (filled_same held.0 _ s),
+            filled_at _ _ w.originators-is w.originator_count-is (filled_more held.1 _ _ l (market_of c.args.rows.now c.requires).originators.1),
           )
     ]
 
-pub invariant-of-result : goal.invariant-of-result
-invariant-of-result c =
+pub invariant_of-result : goal.invariant_of-result
+invariant_of-result c =
     let rows = c.args.rows.now in
     let i = c.loop-row.row-index in
     let end = c.loop-row-test.false in

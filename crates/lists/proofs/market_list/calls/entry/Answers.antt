@@ -5,8 +5,8 @@ use Rattle.lists.proofs.Commas.{at_plain}
 use Rattle.lists.proofs.Filling.{below, past}
 use Rattle.lists.proofs.market_list.calls.entry.Goals as goal
 
-pub offset-bounds-room-index : goal.offset-bounds-room-index
-offset-bounds-room-index g c = omega (arith, c.requires.0, c.if-index-count.true, length-take c.args.count c.args.room.now)
+pub offset_bounds-room-index : goal.offset_bounds-room-index
+offset_bounds-room-index g c = omega (arith, c.requires.0, c.if-index-count.true, length-take c.args.count c.args.room.now)
 
 pub bounds-room-index : goal.bounds-room-index
 bounds-room-index g c = omega (arith, c.requires.0, c.if-index-count.true, length-take c.args.count c.args.room.now)

@@ -7,8 +7,8 @@ use Rattle.processor.proofs.Days.{of_day}
 use Rattle.processor.proofs.Lawfully.{operator_lawful}
 use Rattle.processor.proofs.day.Day.close.Goals as goal
 
-pub invariant-of-self : goal.invariant-of-self
-invariant-of-self c =
+pub invariant_of-self : goal.invariant_of-self
+invariant_of-self c =
     let day = c.args.self.now in
     let l = subst Lawful (sym (c.close.ensures.leaves standard_sets)) (operator_lawful standard_sets (day_of day.floor) close_day (of_day day)) in
     (l.filled, (l.frames, (l.ids, (l.centers, (l.sound_centers, (l.posted, (l.serial, (l.sheets, (l.sound_sheets, tt)))))))))

@@ -3,5 +3,5 @@ use Rattle.processor.proofs.Days.{of_day}
 use Rattle.processor.proofs.Lawfully.{kept}
 use Rattle.processor.proofs.day.Day.consolidated_sheet.Goals as goal
 
-pub consolidated-sheet-requires : goal.consolidated-sheet-requires
-consolidated-sheet-requires c = kept (day_of c.args.self.now.floor) (of_day c.args.self.now)
+pub consolidated_sheet-requires : goal.consolidated_sheet-requires
+consolidated_sheet-requires c = kept (day_of c.args.self.now.floor) (of_day c.args.self.now)

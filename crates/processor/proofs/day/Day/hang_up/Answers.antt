@@ -7,11 +7,11 @@ use Rattle.processor.proofs.Days.{of_day}
 use Rattle.processor.proofs.Lawfully.{kept, line_lawful}
 use Rattle.processor.proofs.day.Day.hang_up.Goals as goal
 
-pub hang-up-requires : goal.hang-up-requires
-hang-up-requires c = kept (day_of c.args.self.now.floor) (of_day c.args.self.now)
+pub hang_up-requires : goal.hang_up-requires
+hang_up-requires c = kept (day_of c.args.self.now.floor) (of_day c.args.self.now)
 
-pub invariant-of-self : goal.invariant-of-self
-invariant-of-self c =
+pub invariant_of-self : goal.invariant_of-self
+invariant_of-self c =
     let day = c.args.self.now in
     let l = subst Lawful (sym (c.hang_up.ensures.leaves standard_sets)) (line_lawful standard_sets (day_of day.floor) c.args.ticket.line hang_up tt (of_day day)) in
     (l.filled, (l.frames, (l.ids, (l.centers, (l.sound_centers, (l.posted, (l.serial, (l.sheets, (l.sound_sheets, tt)))))))))

@@ -7,11 +7,11 @@ use Rattle.processor.proofs.Days.{of_day}
 use Rattle.processor.proofs.Lawfully.{kept, line_lawful}
 use Rattle.processor.proofs.day.Day.log_in.Goals as goal
 
-pub log-in-requires : goal.log-in-requires
-log-in-requires c = kept (day_of c.args.self.now.floor) (of_day c.args.self.now)
+pub log_in-requires : goal.log_in-requires
+log_in-requires c = kept (day_of c.args.self.now.floor) (of_day c.args.self.now)
 
-pub invariant-of-self : goal.invariant-of-self
-invariant-of-self c =
+pub invariant_of-self : goal.invariant_of-self
+invariant_of-self c =
     let day = c.args.self.now in
     let l = subst Lawful (sym (c.log_in.ensures.leaves standard_sets)) (line_lawful standard_sets (day_of day.floor) c.args.line log_in tt (of_day day)) in
     (l.filled, (l.frames, (l.ids, (l.centers, (l.sound_centers, (l.posted, (l.serial, (l.sheets, (l.sound_sheets, tt)))))))))

@@ -10,8 +10,8 @@ use Rattle.processor.proofs.day.Day.post.Goals as goal
 pub post-requires : goal.post-requires
 post-requires c = kept (day_of c.args.self.now.floor) (of_day c.args.self.now)
 
-pub invariant-of-self : goal.invariant-of-self
-invariant-of-self c =
+pub invariant_of-self : goal.invariant_of-self
+invariant_of-self c =
     let day = c.args.self.now in
     let call = post c.args.symbol.now c.args.action in
     let l = subst Lawful (sym (c.post.ensures.leaves standard_sets)) (operator_lawful standard_sets (day_of day.floor) call (of_day day)) in

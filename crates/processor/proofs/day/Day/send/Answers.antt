@@ -10,8 +10,8 @@ use Rattle.processor.proofs.day.Day.send.Goals as goal
 pub send-requires : goal.send-requires
 send-requires g c = kept (day_of c.args.self.now.floor) (of_day c.args.self.now)
 
-pub invariant-of-self : goal.invariant-of-self
-invariant-of-self g c =
+pub invariant_of-self : goal.invariant_of-self
+invariant_of-self g c =
     let day = c.args.self.now in
     let sets = g.B.CodeBook.sets c.args.book.now in
     let call = send c.args.time c.args.frame.now (length c.args.buffer.now) in

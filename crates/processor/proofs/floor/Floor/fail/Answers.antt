@@ -23,13 +23,13 @@ returns-in-Cut c =
     ∙ status_turn d c.args.line (answered (Failed (Cut c.in-Cut.reason))) (cut_status c.in-Cut.reason (line_of c.args.line d).status)
     ∙ ap (λ v. (turned d c.args.line (quiet (answered (Failed v)) (after_verdict (line_of c.args.line d) c.args.place v))).day) (sym c.in-Cut.is)
 
-pub returns-else-consumes-id : goal.returns-else-consumes-id
-returns-else-consumes-id c =
+pub returns-else-consumes_id : goal.returns-else-consumes_id
+returns-else-consumes_id c =
     let d = day_of c.args.self.now in
     let line = line_of c.args.line d in
     let reason = c.in-Rejected.reason in
-    let early : false ≡ consumes_id reason.row = sym c.if-consumes-id.false ∙ c.consumes-id.ensures in
-    c.consume-frame.ensures
+    let early : false ≡ consumes_id reason.row = sym c.if-consumes_id.false ∙ c.consumes_id.ensures in
+    c.consume_frame.ensures
     ∙ status_turn d c.args.line (answered (Failed (Rejected reason))) (frame_consumed line.status)
     ∙ ap (λ b. (turned d c.args.line (quiet (answered (Failed (Rejected reason))) (record { status = frame_consumed line.status; records = after_reject b (Some c.in-Some.security) line.records }))).day) early
     ∙ ap (λ p. (turned d c.args.line (quiet (answered (Failed (Rejected reason))) (after_verdict line p (Rejected reason)))).day) (sym c.in-Some.is)
@@ -39,7 +39,7 @@ pub returns-in-None : goal.returns-in-None
 returns-in-None c =
     let d = day_of c.args.self.now in
     let line = line_of c.args.line d in
-    c.consume-frame-in-None.ensures
+    c.consume_frame-in-None.ensures
     ∙ status_turn d c.args.line (answered (Failed (Rejected c.in-Rejected.reason))) (frame_consumed line.status)
     ∙ ap (λ p. (turned d c.args.line (quiet (answered (Failed (Rejected c.in-Rejected.reason))) (after_verdict line p (Rejected c.in-Rejected.reason)))).day) (sym c.in-None.is)
     ∙ ap (λ v. (turned d c.args.line (quiet (answered (Failed v)) (after_verdict line c.args.place v))).day) (sym c.in-Rejected.is)

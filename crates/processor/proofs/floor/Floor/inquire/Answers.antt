@@ -15,7 +15,7 @@ returns-in-Some c =
     let buffer = c.args.buffer.now in
     let call = inquire c.args.time c.args.symbol.now (length buffer) in
     let same : (sets : Sets) → refusing d c.in-Some.refusal ≡ step sets d (of_line c.args.line call) =
-    λ sets. line_refused sets d c.args.line call c.in-Some.refusal (sym c.inquire-refusal.ensures ∙ c.in-Some.is) in
+    λ sets. line_refused sets d c.args.line call c.in-Some.refusal (sym c.inquire_refusal.ensures ∙ c.in-Some.is) in
     record {
       said = λ sets. ap (λ s. s.said) (same sets);
       wrote = λ sets. ap (λ s. buffer_after s.wrote buffer) (same sets);
@@ -29,9 +29,9 @@ returns-in-None c =
     let buffer = c.args.buffer.now in
     let call = inquire c.args.time c.args.symbol.now (length buffer) in
     let same : (sets : Sets) → turned d c.args.line (line_turn sets d.market c.args.line (line_of c.args.line d) call) ≡ step sets d (of_line c.args.line call) =
-    λ sets. line_goes sets d c.args.line call (sym c.inquire-refusal.ensures ∙ c.in-None.is) in
+    λ sets. line_goes sets d c.args.line call (sym c.inquire_refusal.ensures ∙ c.in-None.is) in
     record {
       said = λ sets. ap (λ s. s.said) (same sets);
-      wrote = λ sets. c.inquire-open.ensures ∙ ap (λ s. buffer_after s.wrote buffer) (same sets);
+      wrote = λ sets. c.inquire_open.ensures ∙ ap (λ s. buffer_after s.wrote buffer) (same sets);
       same = λ sets. same_turn d c.args.line told ∙ ap (λ s. s.day) (same sets);
     }

@@ -12,7 +12,7 @@ pub returns-in-Some : goal.returns-in-Some
 returns-in-Some c =
     let d = day_of c.args.self.now in
     let same : (sets : Sets) → refusing d c.in-Some.refusal ≡ step sets d (of_line c.args.line log_in) =
-    λ sets. line_refused sets d c.args.line log_in c.in-Some.refusal (sym c.log-in-refusal.ensures ∙ c.in-Some.is) in
+    λ sets. line_refused sets d c.args.line log_in c.in-Some.refusal (sym c.log_in_refusal.ensures ∙ c.in-Some.is) in
     record { said = λ sets. ap (λ s. s.said) (same sets); leaves = λ sets. ap (λ s. s.day) (same sets) }
 
 pub returns-in-None : goal.returns-in-None
@@ -20,5 +20,5 @@ unfolding line_turn
 returns-in-None c =
     let d = day_of c.args.self.now in
     let same : (sets : Sets) → turned d c.args.line (line_turn sets d.market c.args.line (line_of c.args.line d) log_in) ≡ step sets d (of_line c.args.line log_in) =
-    λ sets. line_goes sets d c.args.line log_in (sym c.log-in-refusal.ensures ∙ c.in-None.is) in
+    λ sets. line_goes sets d c.args.line log_in (sym c.log_in_refusal.ensures ∙ c.in-None.is) in
     record { said = λ sets. ap (λ s. s.said) (same sets); leaves = λ sets. c.seat.ensures ∙ ap (λ s. s.day) (same sets) }

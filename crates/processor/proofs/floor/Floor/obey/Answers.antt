@@ -30,11 +30,11 @@ returns-in-Some c =
           ∙ ap (λ j. buffer_after (turned d c.args.line (judged_turn d c.args.line c.args.time c.args.place (Ok j))).wrote c.args.buffer.now) is;
     }
 
-pub returns-in-default : goal.returns-in-default
+pub returns-in_default : goal.returns-in_default
 unfolding send_turn
-returns-in-default c =
+returns-in_default c =
     let d = day_of c.args.self.now in
-    let at = sym c.in-default.is in
+    let at = sym c.in_default.is in
     let is = sym c.in-Trade.is in
     let report = c.in-Trade.report in
     record {

@@ -8,5 +8,5 @@ pub returns : goal.returns
 returns c =
     let d = day_of c.args.self.now in
     let end = ends_before c.args.line (line_count d.market) (security_count d.market) c.requires.0 in
-    let same : c.args.line * c.security-count.result ≡ c.args.line * security_count d.market = ap (λ n. c.args.line * n) c.security-count.ensures.value in
-    record { value = ap (λ n. c.args.line * n + c.args.security) c.security-count.ensures.value; within = omega (arith, end, c.requires.1.1.records, c.requires.1.0, same) }
+    let same : c.args.line * c.security_count.result ≡ c.args.line * security_count d.market = ap (λ n. c.args.line * n) c.security_count.ensures.value in
+    record { value = ap (λ n. c.args.line * n + c.args.security) c.security_count.ensures.value; within = omega (arith, end, c.requires.1.1.records, c.requires.1.0, same) }

@@ -15,7 +15,7 @@ unreachable-requires c =
     let d = day_of c.args.self.now in
     let symbols = securities_of c.args.self.now.market in
     let from = c.args.line * length symbols in
-    let at = ap (λ n. c.args.line * n) c.security-count.ensures.value in
+    let at = ap (λ n. c.args.line * n) c.security_count.ensures.value in
     let end : from + length symbols ≤ length d.records = omega (arith, ends_before c.args.line (line_count d.market) (security_count d.market) c.requires.0, c.requires.1.whole.records) in
     let told = sym c.in-None.is ∙ c.sweep.ensures.count ∙ ap (λ k. sweep_tells c.args.action c.args.range.now symbols d.records k) at ∙ tells c.args.action c.args.range.now symbols d.records from end in
     let z : ◌≡◌ {A = ℕ} 0 1 = cc in
@@ -26,7 +26,7 @@ returns c =
     let d = day_of c.args.self.now in
     let symbols = securities_of c.args.self.now.market in
     let from = c.args.line * length symbols in
-    let at = ap (λ n. c.args.line * n) c.security-count.ensures.value in
+    let at = ap (λ n. c.args.line * n) c.security_count.ensures.value in
     let end : from + length symbols ≤ length d.records = omega (arith, ends_before c.args.line (line_count d.market) (security_count d.market) c.requires.0, c.requires.1.whole.records) in
     let told = sym c.in-Some.is ∙ c.sweep.ensures.count ∙ ap (λ k. sweep_tells c.args.action c.args.range.now symbols d.records k) at ∙ tells c.args.action c.args.range.now symbols d.records from end in
     let after =

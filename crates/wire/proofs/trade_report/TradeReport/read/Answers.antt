@@ -6,16 +6,16 @@ use Rattle.wire.specs.TradeReport.{fields_of, frame_of}
 use Rattle.wire.proofs.Again.{fails_alike, frame_again, none_failing}
 use Rattle.wire.proofs.trade_report.TradeReport.read.Goals as goal
 
-pub returns-in-err-check-header : goal.returns-in-err-check-header
-returns-in-err-check-header c =
+pub returns-in-err-check_header : goal.returns-in-err-check_header
+returns-in-err-check_header c =
     let frame = c.args.frame.now in
     let p = err_from_is_err_and c.from-residual.result c.from-residual.ensures.1 in
-    rw (p.1, p.2) (record { value = fails_alike (first_failing (asked_of (codes "TE") 72 frame)) tt (fields_of frame) _ c.in-err-check-header.ensures; again = tt })
+    rw (p.1, p.2) (record { value = fails_alike (first_failing (asked_of (codes "TE") 72 frame)) tt (fields_of frame) _ c.in-err-check_header.ensures; again = tt })
 
 pub returns : goal.returns
 returns c =
     let frame = c.args.frame.now in
-    let none = none_failing (first_failing (asked_of (codes "TE") 72 frame)) tt c.in-ok-check-header.ensures in
+    let none = none_failing (first_failing (asked_of (codes "TE") 72 frame)) tt c.in-ok-check_header.ensures in
     let read = c.fields.ensures in
     record {
       value = ap (λ fields. Ok fields) read ∙ ap (λ failing. unless failing (fields_of frame)) (sym none);

@@ -9,11 +9,11 @@ pub returns : goal.returns
 returns c =
     let r = c.args.self.now in
     let old = c.args.buffer.now in
-    let h = c.place-header.ensures.typed in
-    let t = c.place-trade.ensures.typed in
+    let h = c.place_header.ensures.typed in
+    let t = c.place_trade.ensures.typed in
     let room = le-leb 72 _ c.if-buffer-lt-LENGTH.false in
-    let whole : c.place-trade.new.buffer ≡ frame_of r ++ drop 72 old =
-    whole_written r old _ _ h t c.place-header.ensures.after c.place-trade.ensures.after in
+    let whole : c.place_trade.new.buffer ≡ frame_of r ++ drop 72 old =
+    whole_written r old _ _ h t c.place_header.ensures.after c.place_trade.ensures.after in
     record {
       answer = ap (λ b. cond b (Ok tt) (Err ShortBuffer)) (sym room);
       after = whole ∙ ap (λ b. cond b (frame_of r ++ drop 72 old) old) (sym room);
