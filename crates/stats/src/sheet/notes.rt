@@ -49,9 +49,9 @@ impl<Last: Copy> Sheet<Last> {
 
     // The sheet of some reports, in the order in which they came.
     pub fn of<Report: Enters<Last> + Copy>(reports: &[Report]) -> Result<Sheet<Last>, VolumeFull>
-        ensures test { is_ok result ≡ nat_lt (total enter reports.now) (2 ^ 64) }
-        ensures value { IfOk result (λ s. plain_of s ≡ sheet_of enter reports.now) }
-        ensures unordered { IfOk result (λ s. Unordered enter reports.now (plain_of s)) }
+        ensures test { is_ok result ≡ nat_lt (total Report.enter reports.now) (2 ^ 64) }
+        ensures value { IfOk result (λ s. plain_of s ≡ sheet_of Report.enter reports.now) }
+        ensures unordered { IfOk result (λ s. Unordered Report.enter reports.now (plain_of s)) }
     {
         let mut sheet = Sheet::empty();
         sheet.fill(reports)?;
@@ -61,9 +61,9 @@ impl<Last: Copy> Sheet<Last> {
     // Enters the reports on an empty sheet, as far as the volume allows.
     fn fill<Report: Enters<Last> + Copy>(&mut self, reports: &[Report]) -> Result<(), VolumeFull>
         requires { plain_of self.old ≡ empty_sheet }
-        ensures test { is_ok result ≡ nat_lt (total enter reports.now) (2 ^ 64) }
-        ensures after { is_ok result ≡ true → plain_of self.new ≡ sheet_of enter reports.now }
-        ensures unordered { is_ok result ≡ true → Unordered enter reports.now (plain_of self.new) }
+        ensures test { is_ok result ≡ nat_lt (total Report.enter reports.now) (2 ^ 64) }
+        ensures after { is_ok result ≡ true → plain_of self.new ≡ sheet_of Report.enter reports.now }
+        ensures unordered { is_ok result ≡ true → Unordered Report.enter reports.now (plain_of self.new) }
     {
         for report in reports {
             self.note(*report)?;
@@ -102,11 +102,11 @@ impl<Last: Copy> Sheet<Last> {
 
     // Enters a report, or alters nothing if the volume would pass 2^64 - 1.
     pub fn note<Report: Enters<Last>>(&mut self, report: Report) -> Result<(), VolumeFull>
-        ensures test { is_ok result ≡ nat_lt (self.old.volume + (enter report).adds) (2 ^ 64) }
-        ensures after { plain_of self.new ≡ (if is_ok result then noted (plain_of self.old) (enter report) else plain_of self.old) }
+        ensures test { is_ok result ≡ nat_lt (self.old.volume + (Report.enter report).adds) (2 ^ 64) }
+        ensures after { plain_of self.new ≡ (if is_ok result then noted (plain_of self.old) (Report.enter report) else plain_of self.old) }
         ensures succeeds { self.old.volume ≤ 2 ^ 64 - 2 ^ 32 → is_ok result ≡ true }
         ensures bound { self.new.volume ≤ self.old.volume + 4294967295 }
-        ensures holds { is_ok result ≡ true → Noted enter (plain_of self.old) report (plain_of self.new) }
+        ensures holds { is_ok result ≡ true → Noted Report.enter (plain_of self.old) report (plain_of self.new) }
     {
         self.put(report.entry())
     }

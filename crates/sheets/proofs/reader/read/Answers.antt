@@ -36,7 +36,7 @@ returns-in-Err g c =
     record { answer = ap (λ t. Err t) c.past_rows.ensures ∙ e.answer; rows = e.rows; within = tt }
 
 pub past_rows-requires-then-not-are_whole : goal.past_rows-requires-then-not-are_whole
-past_rows-requires-then-not-are_whole g c κs = omega arith
+past_rows-requires-then-not-are_whole g c = omega arith
 
 pub returns-then-not-are_whole : goal.returns-then-not-are_whole
 returns-then-not-are_whole g c =

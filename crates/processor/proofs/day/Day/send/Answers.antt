@@ -15,6 +15,6 @@ invariant_of-self g c =
     let day = c.args.self.now in
     let sets = g.B.CodeBook.sets c.args.book.now in
     let call = send c.args.time c.args.frame.now (length c.args.buffer.now) in
-    let bytes = All-from_get_or (λ b. b < 256) c.args.frame.now 0 (λ i h. omega (arith, c.type-inv.frame i)) in
+    let bytes = All-from_get_or (λ b. b < 256) c.args.frame.now 0 (λ i h. omega (arith, c.type_inv.frame i)) in
     let l = subst Lawful (sym c.send.ensures.leaves) (line_lawful sets (day_of day.floor) c.args.ticket.now.line call bytes (of_day day)) in
     (l.filled, (l.frames, (l.ids, (l.centers, (l.sound_centers, (l.posted, (l.serial, (l.sheets, (l.sound_sheets, tt)))))))))

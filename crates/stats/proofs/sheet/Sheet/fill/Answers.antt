@@ -15,27 +15,27 @@ not_both : {T E : Type 0} (r : Result T E) → is_err r ≡ true → is_ok r ≡
 not_both (Ok x) e o = let z : ◌≡◌ {A = ℕ} 0 1 = cc in omega arith
 not_both (Err x) e o = let z : ◌≡◌ {A = ℕ} 0 1 = cc in omega arith
 
-pub returns-in-err-note : goal.returns-in-err-note
-returns-in-err-note g c =
-    let r = c.from-residual.result in
+pub returns-in_err-note : goal.returns-in_err-note
+returns-in_err-note g c =
+    let r = c.from_residual.result in
     let full =
     too_much g.Report.Enters.enter c.args.reports.now c.loop-report.report-index c.report-item.result
     (plain_of c.loop-report.self) (2 ^ 64) c.loop-report-test.true c.report-item.is c.loop-report.invariant.1
-    (sym c.in-err-note.ensures.test) in
+    (sym c.in_err-note.ensures.test) in
     record {
-      test = ap is_ok (err_from_is_err_and r c.from-residual.ensures.1).1 ∙ sym full;
-      after = λ ok. absurd (not_both r c.from-residual.ensures.0 ok);
-      unordered = λ ok. absurd (not_both r c.from-residual.ensures.0 ok);
+      test = ap is_ok (err_from_is_err_and r c.from_residual.ensures.1).1 ∙ sym full;
+      after = λ ok. absurd (not_both r c.from_residual.ensures.0 ok);
+      unordered = λ ok. absurd (not_both r c.from_residual.ensures.0 ok);
     }
 
 pub loop-report-preserved : goal.loop-report-preserved
 loop-report-preserved g c =
-    let t = c.in-ok-note.ensures.test in
-    let a = c.in-ok-note.ensures.after in (
+    let t = c.in_ok-note.ensures.test in
+    let a = c.in_ok-note.ensures.after in (
       search rules,
       one_more g.Report.Enters.enter c.args.reports.now c.loop-report.report-index c.report-item.result
           (plain_of c.loop-report.self) (plain_of c.note.new.self) c.loop-report-test.true c.report-item.is c.loop-report.invariant.1
-          (c.in-ok-note.ensures.holds refl),
+          (c.in_ok-note.ensures.holds refl),
     )
 
 pub returns : goal.returns

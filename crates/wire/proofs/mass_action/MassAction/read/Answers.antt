@@ -5,8 +5,8 @@ use Rattle.wire.specs.MassAction.{action_fields}
 use Rattle.wire.proofs.Again.{fails_alike}
 use Rattle.wire.proofs.mass_action.MassAction.read.Goals as goal
 
-pub returns-in-err-check_header : goal.returns-in-err-check_header
-returns-in-err-check_header c =
+pub returns-in_err-check_header : goal.returns-in_err-check_header
+returns-in_err-check_header c =
     let frame = c.args.frame.now in
-    let p = err_from_is_err_and c.from-residual.result c.from-residual.ensures.1 in
-    rw (p.1, p.2) (fails_alike (first_failing (asked_of (codes "AU") 60 frame)) tt (action_fields frame) _ c.in-err-check_header.ensures)
+    let p = err_from_is_err_and c.from_residual.result c.from_residual.ensures.1 in
+    rw (p.1, p.2) (fails_alike (first_failing (asked_of (codes "AU") 60 frame)) tt (action_fields frame) _ c.in_err-check_header.ensures)
