@@ -12,7 +12,7 @@ pub fn sheet_after<Last: Copy, Report: Enters<Last> + Copy>(
     plain: PlainSheet<Last>,
     report: Report,
 ) -> Option<PlainSheet<Last>>
-    ensures value { result ≡ noted_if plain (enter report) }
+    ensures value { result ≡ noted_if plain (Report.enter report) }
     ensures kept { IfSome result (λ s. sound s ≡ true) }
 {
     match Sheet::check(plain) {

@@ -11,8 +11,8 @@ use text::symbol::Symbol;
 
 // What stands at an index of the places that are in use.
 fn entry<const N: usize>(room: &[[u8; N]], count: usize, index: usize) -> Option<[u8; N]>
-    requires room_len { length (take count room.now) ≡ count }
-    requires room_value { none_has 44 (take count room.now) ≡ true }
+    requires counted { length (take count room.now) ≡ count }
+    requires commaless { none_has 44 (take count room.now) ≡ true }
     ensures value { result ≡ at_index (take count room.now) index }
     ensures plain { Commaless result }
 {

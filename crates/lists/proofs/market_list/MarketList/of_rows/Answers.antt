@@ -60,19 +60,14 @@ invariant_of-result c =
     let f = c.loop-row.invariant.0 in
     let g = c.loop-row.invariant.1 in
     let symbols = filled_end f (at_drop_all securities rows i end) in
-    let originators = filled_end g (at_drop_all lines rows i end) in (
-      (filled_count f (market_of c.args.rows.now c.requires).symbols.1, filled_count g (market_of c.args.rows.now c.requires).originators.1),
-      (
-        subst SymbolList (sym symbols) (market_of c.args.rows.now c.requires).symbols,
-        (
-          subst OriginatorList (sym originators) (market_of c.args.rows.now c.requires).originators,
-          (
-            (ap (none_has 44) symbols ∙ (market_of c.args.rows.now c.requires).plain_symbols, ap (none_has 44) originators ∙ (market_of c.args.rows.now c.requires).plain_originators),
-            tt,
-          ),
-        ),
-      ),
-    )
+    let originators = filled_end g (at_drop_all lines rows i end) in
+    let m = market_of rows c.requires in
+    record {
+      counted = (filled_count f m.symbols.1, filled_count g m.originators.1);
+      listed = subst SymbolList (sym symbols) m.symbols;
+      connected = subst OriginatorList (sym originators) m.originators;
+      plain = (ap (none_has 44) symbols ∙ m.plain_symbols, ap (none_has 44) originators ∙ m.plain_originators);
+    }
 
 pub returns : goal.returns
 returns c =
