@@ -14,7 +14,7 @@ pub(crate) mod calls;
 pub(crate) mod effects;
 pub(crate) mod frames;
 pub(crate) mod making;
-pub(crate) mod marks;
+pub(crate) mod sweeps;
 pub(crate) mod places;
 pub(crate) mod refusals;
 pub(crate) mod reports;
