@@ -1,5 +1,5 @@
 -- No row of a book sheet names a comma: commas part its fields.
-use Rattle.std.proofs.Common.{◌≡◌, ℕ, zero, suc, ◌-◌, Bool, true, false, cond, ◌||◌, eqb, List, [], ◌∷◌, ◌++◌, get_or, IfSome, IfOk, Some, None, Ok, Err, Option, Result, sym, refl, ap, ◌∙◌}
+use Rattle.std.proofs.Common.{◌≡◌, ℕ, zero, suc, ◌-◌, Bool, true, false, cond, ◌||◌, eqb, List, [], ◌∷◌, get_or, IfSome, IfOk, Some, None, Ok, Err, Option, Result, refl, ap, ◌∙◌}
 use Rattle.std.specs.List.{AllByRecursion as All}
 use Rattle.std.proofs.ByRecursion.{All-push}
 use Rattle.std.proofs.lemmas.Result.{IfOk-at_ok}
@@ -11,12 +11,12 @@ use Rattle.codes.specs.declared.book_row.BookRow.TheVariants.{Flag, Side, Value,
 use Rattle.sheets.specs.declared.fault.FieldFault.{FieldFault}
 use Rattle.sheets.specs.declared.fault.FieldFault.TheVariants.{UnknownRow}
 use Rattle.cuts.specs.Cut.{in_front, parts, has, field_of, only_byte}
-use Rattle.sheets.specs.Layers.{line_of, row_in}
-use Rattle.sheets.specs.Forms.{digit_of, printable_by, printable_field, bucket_field}
-use Rattle.codes.specs.BookRows.{flag_row, side_row, value_row, barred_row, book_row_by, book_row, book_rules, fields_of}
+use Rattle.sheets.specs.Layers.{line_of}
+use Rattle.sheets.specs.Forms.{printable_by, printable_field, bucket_field}
+use Rattle.codes.specs.BookRows.{flag_row, side_row, value_row, barred_row, book_row_by, book_rules, fields_of}
 use Rattle.sheets.proofs.Formed.{choice_made, counted_made, then_made, formed_made, line_made}
 use Rattle.sheets.specs.Reading.{Faultless}
-use Rattle.sheets.proofs.Passed.{holds, Keeps, Stands}
+use Rattle.sheets.proofs.Passed.{holds, Keeps}
 
 -- a row that names no comma (44)
 abbrev pub CommaFree : BookRow → Type 0

@@ -1,11 +1,11 @@
 -- The book sheet: rows `E,flag`, `D,side`, `C,bucket,value` and `N,flag,value`.
-use Rattle.std.specs.Prelude.{◌≡◌, ℕ, Bool, true, false, cond, ◌||◌, List, [], ◌∷◌, length, Some, None, Ok, Err, Option, Result, ◌==◌, nat_le}
+use Rattle.std.specs.Prelude.{ℕ, Bool, true, false, cond, ◌||◌, List, [], ◌∷◌, length, Some, None, Ok, Err, Option, Result, ◌==◌, nat_le}
 use Rattle.std.specs.Str.{bytes_eq}
 use Rattle.sheets.specs.declared.fault.FieldFault.{FieldFault}
 use Rattle.sheets.specs.declared.fault.FieldFault.TheVariants.{UnknownRow}
 use Rattle.codes.specs.declared.book_row.BookRow.{BookRow}
 use Rattle.codes.specs.declared.book_row.BookRow.TheVariants.{Flag, Side, Value, Barred}
-use Rattle.cuts.specs.Cut.{field_of, only_byte, has}
+use Rattle.cuts.specs.Cut.{field_of, only_byte}
 use Rattle.sheets.specs.Layers.{Rules}
 use Rattle.sheets.specs.Forms.{digit_of, counted, and_then, printable_field, bucket_field}
 

@@ -1,5 +1,5 @@
 -- The sale condition matrix: the bytes of each row, what they say, and a byte's row.
-use Rattle.std.specs.Prelude.{ℕ, Bool, true, false, cond, ◌||◌, List, [], ◌∷◌, codes, ◌==◌}
+use Rattle.std.specs.Prelude.{ℕ, Bool, false, cond, ◌||◌, List, [], ◌∷◌, codes, ◌==◌}
 use Rattle.conditions.specs.declared.matrix.Effects.{Effects}
 use Rattle.conditions.specs.declared.matrix.Row.{Row}
 use Rattle.conditions.specs.declared.matrix.Row.TheVariants.{Regular, FirstLast, VolumeOnly, OfficialClose, OfficialOpen, CorrectedClose, Silent}

@@ -1,5 +1,5 @@
 -- A text cut at a separator, as a sheet is cut into lines and a line into fields.
-use Rattle.std.specs.Prelude.{ℕ, suc, ◌-◌, Bool, true, false, cond, ◌||◌, List, [], ◌∷◌, length, drop, Some, None, Option, ◌==◌, slice_index_or}
+use Rattle.std.specs.Prelude.{ℕ, suc, ◌-◌, Bool, false, cond, ◌||◌, List, [], ◌∷◌, length, drop, Some, None, Option, ◌==◌, slice_index_or}
 
 abbrev pub in_front : ℕ → List (List ℕ) → List (List ℕ)
 in_front b [] = []

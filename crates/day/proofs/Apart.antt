@@ -1,9 +1,9 @@
 -- What a line sees is made of its own calls and the operator's.
-use Rattle.std.proofs.Common.{◌≡◌, ℕ, suc, ◌+◌, ◌*◌, ◌<◌, ◌≤◌, Bool, true, false, cond, not, ◌||◌, eqb, leb, ◌≢◌, List, [], ◌∷◌, ◌++◌, length, get_or, take, drop, replicate, Some, None, decimal, Option, sym, refl, ap, ◌∙◌, subst, arith, length-append, eqb-true}
+use Rattle.std.proofs.Common.{◌≡◌, ℕ, suc, ◌+◌, ◌*◌, ◌<◌, ◌≤◌, Bool, true, false, cond, not, eqb, leb, ◌≢◌, List, [], ◌∷◌, ◌++◌, length, get_or, take, drop, replicate, Some, None, decimal, Option, sym, refl, ap, ◌∙◌, subst, arith, length-append, eqb-true}
 use borrow.Author.Tests.{eqb-false}
 use lib.ListN.{length-replicate}
 use Rattle.std.specs.Option.{is_some}
-use Rattle.std.proofs.lemmas.Bool.{eq-eqb, or_parts}
+use Rattle.std.proofs.lemmas.Bool.{or_parts}
 use Rattle.books.specs.Sets.{Sets}
 use Rattle.cuts.specs.Cut.{first_part, has, past}
 use Rattle.search.specs.Place.{place_of}
@@ -18,9 +18,9 @@ use Rattle.wire.specs.declared.trade_report.TradeReport.{TradeReport}
 use Rattle.day.specs.Asks.{center_sheet, unless_refused}
 use Rattle.day.specs.Call.{Call, of_line, of_operator, LineCall, log_in, send, inquire, hang_up, OperatorCall, Taken}
 use Rattle.day.specs.LineCalls.{Turn, line_refusal, line_turn, place_or0, record_at}
-use Rattle.day.specs.Laws.{Heard, LinesApart, SameFor, calls_for, heard, heard_of, is_of, kept_if, of_record, read_at, taken_if, taken_in, text_heard}
+use Rattle.day.specs.Laws.{LinesApart, calls_for, heard, heard_of, is_of, kept_if, of_record, read_at, taken_if, taken_in, text_heard}
 use Rattle.day.specs.Refusing.{bar_if, first_bar}
-use Rattle.day.specs.State.{Day, Line, Market, fresh_day, line_count, line_of, part_of, security_count}
+use Rattle.day.specs.State.{Day, Line, Market, fresh_day, line_count, line_of}
 use Rattle.day.specs.Step.{run, step, tells, told_of, writing}
 use Rattle.day.proofs.Parts.{ends_before, part-front}
 use Rattle.day.proofs.Steps.{Sound, bytes_after, bytes_by, line_after, operates, operator_after, said_after, taken_after, taken_by, visited}

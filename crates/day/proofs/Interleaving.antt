@@ -1,18 +1,15 @@
 -- Consolidated highs, lows and volumes are what the lines bring, each by its own calls.
-use Rattle.std.proofs.Common.{◌≡◌, ℕ, ◌+◌, ◌<◌, List, map, length, None, sym, refl, ap, ◌∙◌}
+use Rattle.std.proofs.Common.{◌≡◌, ℕ, ◌<◌, List, map, length, sym, ap, ◌∙◌}
 use Rattle.books.specs.Sets.{Sets}
 use Rattle.stats.specs.Entries.{consolidated_entry}
-use Rattle.stats.specs.Plain.{higher, lower}
-use Rattle.stats.specs.Reports.{SameTotals, joined, sheet_of}
-use Rattle.stats.specs.declared.plain_sheet.PlainSheet.{PlainSheet}
+use Rattle.stats.specs.Reports.{joined}
 use Rattle.stats.specs.declared.record.MarketCenterRecord.{MarketCenterRecord}
-use Rattle.stats.specs.declared.sale.LastSale.{LastSale}
 use Rattle.stats.specs.declared.sale.LineSale.{LineSale}
 use Rattle.stats.proofs.Joins.{Joins, highs, lows, sums}
-use Rattle.day.specs.Call.{Call, Taken}
-use Rattle.day.specs.Laws.{InterleavingHarmless, anyone, at_place, calls_for, is_of, sheet_at, taken_in}
-use Rattle.day.specs.State.{Day, fresh_day}
-use Rattle.day.specs.Step.{line_sale_of, run}
+use Rattle.day.specs.Call.{Call}
+use Rattle.day.specs.Laws.{InterleavingHarmless, anyone, at_place, calls_for, is_of, taken_in}
+use Rattle.day.specs.State.{fresh_day}
+use Rattle.day.specs.Step.{line_sale_of}
 use Rattle.day.proofs.Apart.{fresh_alike, fresh_sound}
 use Rattle.day.proofs.Shares.{all-shares, givenAt, joined_at, over, over-same}
 use Rattle.day.proofs.Sheets.{sheets_of_reports}

@@ -1,5 +1,5 @@
 -- The marked cases, computed.
-use Rattle.std.proofs.Common.{◌≡◌, refl}
+use Rattle.std.proofs.Common.{refl}
 use Rattle.std.specs.Fmt.{digits}
 use Rattle.conditions.specs.Condition.{four_effects}
 use Rattle.conditions.specs.Matrix.{row_of}

@@ -1,5 +1,5 @@
 -- A line's part of a list in which every line has as many places.
-use Rattle.std.proofs.Common.{◌≡◌, ℕ, zero, suc, ◌+◌, ◌-◌, ◌*◌, ◌<◌, ◌≤◌, ◌≢◌, List, [], ◌∷◌, ◌++◌, length, get_or, take, drop, sym, refl, ap, ◌∙◌, subst, mul-le-mul_right, suc-mul, arith, length-append, length-drop, take-append-drop, length-take-le, drop-drop, take_at, drop_at}
+use Rattle.std.proofs.Common.{◌≡◌, ℕ, ◌+◌, ◌-◌, ◌*◌, ◌<◌, ◌≤◌, ◌≢◌, List, ◌++◌, length, take, drop, sym, ap, ◌∙◌, subst, mul-le-mul_right, suc-mul, arith, length-append, length-drop, take-append-drop, length-take-le, drop-drop, take_at, drop_at}
 use native.Mathlib.Omega.{ne_cases}
 use lib.Seq.{take-append-le, drop-append-le, drop-append-add}
 use Rattle.std.proofs.lemmas.List.{append_assoc}

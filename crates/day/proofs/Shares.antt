@@ -1,18 +1,18 @@
 -- What all lines bring together is what each brings.
-use Rattle.std.proofs.Common.{◌≡◌, ℕ, zero, suc, ◌+◌, ◌<◌, ◌≤◌, Bool, true, false, cond, eqb, ltb, ◌≢◌, List, [], ◌∷◌, ◌++◌, map, Some, None, Option, sym, refl, ap, ◌∙◌, subst, arith, ltb-false, ltb-true, eq-eqb, ne_eqb}
+use Rattle.std.proofs.Common.{◌≡◌, ℕ, zero, suc, ◌<◌, ◌≤◌, Bool, true, false, cond, eqb, ltb, ◌≢◌, List, [], ◌∷◌, map, Some, None, Option, sym, refl, ap, ◌∙◌, arith, ltb-false, ltb-true, eq-eqb, ne_eqb}
 use native.Mathlib.Decide.{ℕ_discrete}
 use Rattle.books.specs.Sets.{Sets}
 use Rattle.states.specs.declared.refusal.Refusal.{Refusal}
 use Rattle.stats.specs.Reports.{joined}
 use Rattle.stats.proofs.Joins.{Joins}
-use Rattle.day.specs.Call.{Call, of_line, of_operator, LineCall, OperatorCall, Taken}
+use Rattle.day.specs.Call.{Call, of_line, of_operator, LineCall, Taken}
 use Rattle.day.specs.LineCalls.{Turn, line_refusal, line_turn}
 use Rattle.day.specs.Laws.{anyone, at_place, is_of, kept_if, taken_if, taken_in}
 use Rattle.day.specs.State.{Day, Line, Market, line_count, line_of}
 use Rattle.day.specs.Step.{step}
 use Rattle.day.proofs.Apart.{step_sound}
 use Rattle.day.proofs.Sheets.{step_lines}
-use Rattle.day.proofs.Steps.{Sound, on_list, operates, taken_after, taken_by, visited}
+use Rattle.day.proofs.Steps.{Sound, on_list, operates, taken_by, visited}
 
 -- joined over the lines with numbers below a bound
 abbrev pub over : {M : Type 0} → M → (M → M → M) → ℕ → (ℕ → M) → M

@@ -1,5 +1,5 @@
 -- A sheet is what its reports say, at every point of a run.
-use Rattle.std.proofs.Common.{◌≡◌, ℕ, zero, suc, ◌+◌, ◌*◌, ◌<◌, ◌≤◌, Bool, true, false, cond, eqb, ◌≢◌, List, [], ◌∷◌, ◌++◌, map, length, get_or, take, drop, set, replicate, Some, None, Ok, Err, Option, Result, sym, refl, ap, ◌∙◌, subst, append_assoc, append-nil, arith, get_or-drop, get_or-set_other, get_or-take, get_or-set_same, eqb-true}
+use Rattle.std.proofs.Common.{◌≡◌, ℕ, zero, suc, ◌+◌, ◌*◌, ◌<◌, Bool, true, false, cond, eqb, List, [], ◌∷◌, ◌++◌, map, length, get_or, drop, set, replicate, Some, None, Ok, Err, Option, Result, sym, refl, ap, ◌∙◌, subst, append_assoc, append-nil, arith, get_or-drop, get_or-set_other, get_or-take, get_or-set_same, eqb-true}
 use mathlib.Core.List.{map-append}
 use borrow.Author.Tests.{eqb-false}
 use lib.ListN.{get_or-replicate, length-replicate, get_or-append}
@@ -7,7 +7,7 @@ use Rattle.books.specs.Sets.{Sets}
 use Rattle.lines.specs.Judgement.{judged}
 use Rattle.lines.specs.declared.judge.Message.{Message}
 use Rattle.lines.specs.declared.judge.Message.TheVariants.{Trade, Mass}
-use Rattle.marks.specs.Sweep.{swept, swept_record}
+use Rattle.marks.specs.Sweep.{swept}
 use Rattle.marks.specs.Range.{in_range}
 use Rattle.marks.specs.declared.range.SymbolRange.{SymbolRange}
 use Rattle.marks.specs.declared.trading_action.TradingAction.{TradingAction}
@@ -20,19 +20,17 @@ use Rattle.stats.specs.declared.entry.Entry.{Entry}
 use Rattle.stats.specs.declared.plain_sheet.PlainSheet.{PlainSheet}
 use Rattle.stats.specs.declared.record.MarketCenterRecord.{MarketCenterRecord}
 use Rattle.stats.specs.declared.sale.LastSale.{LastSale}
-use Rattle.stats.specs.declared.sale.LineSale.{LineSale}
-use Rattle.stats.specs.declared.sale.Sale.{Sale}
 use Rattle.stats.proofs.Noting.{sheet-push}
 use Rattle.verdicts.specs.declared.answer.Verdict.{Verdict}
 use Rattle.verdicts.specs.declared.answer.Verdict.TheVariants.{PassedOver, Rejected, Cut}
-use Rattle.day.specs.Call.{Call, of_line, of_operator, LineCall, log_in, send, inquire, hang_up, OperatorCall, Taken}
+use Rattle.day.specs.Call.{Call, of_line, of_operator, LineCall, log_in, send, inquire, hang_up, Taken}
 use Rattle.day.specs.LineCalls.{Turn, after_reject, after_verdict, changed_at, context_of, frame_place, id_consumed, line_refusal, line_turn, marked_by, record_at, report_taken, send_turn}
 use Rattle.day.specs.Laws.{SheetsOfReports, anyone, at_place, center_at, center_sale_of, is_of, kept_if, sheet_at, taken_if, taken_in}
 use Rattle.day.specs.State.{Day, Line, Market, fresh_day, line_count, line_of, no_sheet, security_count}
 use Rattle.day.specs.Step.{line_sale_of, run, sheets_after, step}
 use Rattle.day.proofs.Apart.{fresh_sound, step_sound}
 use Rattle.day.proofs.Parts.{ends_before}
-use Rattle.day.proofs.Steps.{Sound, line_after, line_by, line_length, operates, operator_list, taken_after, taken_by, visited}
+use Rattle.day.proofs.Steps.{Sound, line_by, line_length, operates, operator_list, taken_after, taken_by, visited}
 
 -- the one report of a call that is of a place, if there is one
 abbrev pub report_at : ℕ → Option Taken → List Taken

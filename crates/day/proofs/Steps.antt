@@ -1,5 +1,5 @@
 -- What one call does to a day, seen from the market and from each line.
-use Rattle.std.proofs.Common.{◌≡◌, ℕ, suc, ◌+◌, ◌*◌, ◌<◌, ◌≤◌, Bool, true, false, cond, not, ◌||◌, leb, ◌≢◌, List, [], ◌∷◌, length, get_or, set, Some, None, Ok, Err, Option, Result, sym, refl, ap, ◌∙◌, subst, arith, length-set, get_or-set_other, get_or-set_same, leb-false}
+use Rattle.std.proofs.Common.{◌≡◌, ℕ, suc, ◌+◌, ◌*◌, ◌<◌, ◌≤◌, Bool, true, false, cond, ◌||◌, ◌≢◌, List, [], ◌∷◌, length, get_or, Some, None, Ok, Err, Option, Result, sym, refl, ap, ◌∙◌, subst, arith, length-set, get_or-set_other, get_or-set_same, leb-false}
 use Rattle.books.specs.Sets.{Sets}
 use Rattle.inquiry.specs.declared.security_state.SecurityState.{SecurityState}
 use Rattle.lines.specs.Judgement.{judged}
@@ -16,11 +16,10 @@ use Rattle.stats.specs.declared.record.MarketCenterRecord.{MarketCenterRecord}
 use Rattle.stats.specs.declared.sale.LastSale.{LastSale}
 use Rattle.verdicts.specs.declared.answer.Verdict.{Verdict}
 use Rattle.verdicts.specs.declared.answer.Verdict.TheVariants.{PassedOver, Rejected, Cut}
-use Rattle.day.specs.Call.{Call, of_line, of_operator, LineCall, log_in, send, inquire, hang_up, OperatorCall, open_day, post, close_day, Reply, refused, done, Taken}
+use Rattle.day.specs.Call.{of_line, of_operator, LineCall, log_in, send, inquire, hang_up, OperatorCall, open_day, post, close_day, Reply, refused, done, Taken}
 use Rattle.day.specs.LineCalls.{Turn, after_reject, after_verdict, context_of, frame_place, line_refusal, line_turn, marked_by, send_turn}
 use Rattle.day.specs.Operator.{destination, in_state, operated, operator_refusal}
-use Rattle.day.specs.Refusing.{Bar, first_bar}
-use Rattle.day.specs.State.{Day, Line, Market, line_count, line_of, part_of, security_count, with_part}
+use Rattle.day.specs.State.{Day, Line, Market, line_count, line_of, part_of, security_count}
 use Rattle.day.specs.Step.{market_after, serial_after, sheets_after, step, turned, unless_barred, writing}
 use Rattle.day.proofs.Parts.{ends_before, length_part, length-with, part-again, part-other}
 

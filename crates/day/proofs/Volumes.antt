@@ -1,5 +1,5 @@
 -- A security's consolidated volume, over the market centers and over the tape.
-use Rattle.std.proofs.Common.{◌≡◌, ℕ, zero, suc, ◌+◌, ◌^◌, ◌<◌, ◌≤◌, Bool, true, false, cond, ◌&&◌, eqb, List, [], ◌∷◌, ◌++◌, map, length, Some, None, decimal, Option, sym, refl, ap, ◌∙◌, subst, add-zero, zero-add, arith, length-append}
+use Rattle.std.proofs.Common.{◌≡◌, ℕ, zero, suc, ◌+◌, ◌^◌, ◌<◌, Bool, true, false, cond, ◌&&◌, eqb, List, [], ◌∷◌, length, Some, None, Option, sym, refl, ap, ◌∙◌, subst, add-zero, zero-add, arith, length-append}
 use Rattle.std.specs.List.{AllByRecursion as All}
 use Rattle.std.specs.Str.{bytes_eq}
 use Rattle.books.specs.Sets.{Sets}
@@ -10,18 +10,18 @@ use Rattle.stats.specs.Entries.{center_entry, consolidated_entry}
 use Rattle.stats.specs.Reports.{joined}
 use Rattle.stats.specs.declared.record.MarketCenterRecord.{MarketCenterRecord}
 use Rattle.stats.proofs.Joins.{sums}
-use Rattle.tape.specs.TapeLine.{behind, body_fields, tape_body, tape_line}
-use Rattle.tape.specs.TapeReading.{tape_condition, tape_symbol, tape_volume}
+use Rattle.tape.specs.TapeLine.{tape_body, tape_line}
+use Rattle.tape.specs.TapeReading.{tape_symbol}
 use Rattle.tape.proofs.Reading.{condition_again, symbol_again, volume_again}
 use Rattle.text.specs.Symbol.{text_of}
-use Rattle.day.specs.Call.{Call, of_line, of_operator, LineCall, log_in, send, inquire, hang_up, OperatorCall, Taken}
-use Rattle.day.specs.Laws.{IsBytes, VolumesAddUp, added_by_line, anyone, at_place, center_at, center_sale_of, is_of, is_send, kept_if, over_lines, sheet_at, taken_if, taken_in, tape_in, tape_lines, tape_volumes}
+use Rattle.day.specs.Call.{Call, of_line, of_operator, LineCall, log_in, send, inquire, hang_up, Taken}
+use Rattle.day.specs.Laws.{IsBytes, VolumesAddUp, added_by_line, anyone, center_at, center_sale_of, is_of, is_send, kept_if, over_lines, sheet_at, taken_if, taken_in, tape_in, tape_lines, tape_volumes}
 use Rattle.day.specs.State.{Day, Line, Market, fresh_day, line_of}
 use Rattle.day.specs.Step.{Told, line_sale_of, run, step, tells, told_of, writing}
-use Rattle.day.proofs.Apart.{fresh_sound, step_sound}
+use Rattle.day.proofs.Apart.{fresh_sound}
 use Rattle.day.proofs.Genuine.{Genuine, genuine, only_sends, sends_quietly, volume_bounded}
 use Rattle.day.proofs.Places.{placed, same_place}
-use Rattle.day.proofs.Shares.{all-shares, givenAt, joined_at, over}
+use Rattle.day.proofs.Shares.{all-shares, joined_at, over}
 use Rattle.day.proofs.Sheets.{sheets_of_reports}
 use Rattle.day.proofs.Steps.{Sound, bytes_after, operates, operator_list, taken_after, visited}
 

@@ -1,5 +1,5 @@
 -- The laws over whole runs of a practice day.
-use Rattle.std.specs.Prelude.{◌≡◌, ℕ, zero, suc, ◌+◌, ◌*◌, ◌^◌, ◌<◌, ◌≤◌, Bool, true, false, cond, not, ◌&&◌, List, [], ◌∷◌, ◌++◌, map, length, get_or, take, Some, None, Option, Result, ◌==◌, slice_index_or}
+use Rattle.std.specs.Prelude.{◌≡◌, ℕ, zero, suc, ◌+◌, ◌*◌, ◌<◌, ◌≤◌, Bool, true, false, cond, ◌&&◌, List, [], ◌∷◌, ◌++◌, map, length, get_or, take, Some, None, Option, ◌==◌, slice_index_or}
 use Rattle.std.specs.List.{AllByRecursion as All}
 use Rattle.std.specs.Str.{bytes_eq}
 use Rattle.books.specs.Sets.{Sets}
@@ -13,18 +13,16 @@ use Rattle.stats.specs.Entries.{center_entry, consolidated_entry}
 use Rattle.stats.specs.Reports.{SameTotals, sheet_of}
 use Rattle.stats.specs.declared.plain_sheet.PlainSheet.{PlainSheet}
 use Rattle.stats.specs.declared.record.MarketCenterRecord.{MarketCenterRecord}
-use Rattle.stats.specs.declared.record.QuoteMark.{QuoteMark}
 use Rattle.stats.specs.declared.sale.LastSale.{LastSale}
-use Rattle.stats.specs.declared.sale.LineSale.{LineSale}
 use Rattle.stats.specs.declared.sale.Sale.{Sale}
 use Rattle.tape.specs.TapeReading.{tape_condition, tape_symbol, tape_volume}
 use Rattle.text.specs.Symbol.{text_of}
 use Rattle.verdicts.specs.declared.answer.Reason.{Reason}
 use Rattle.day.specs.Asks.{center_sheet}
-use Rattle.day.specs.Call.{Call, of_line, of_operator, LineCall, log_in, send, inquire, hang_up, Reply, refused, Taken}
+use Rattle.day.specs.Call.{Call, of_line, of_operator, log_in, send, inquire, hang_up, Reply, refused, Taken}
 use Rattle.day.specs.LineCalls.{frame_limit, record_at, sale_of}
 use Rattle.day.specs.Operator.{action_limit}
-use Rattle.day.specs.State.{Day, Market, fresh_day, line_count, line_of, no_sheet, security_count}
+use Rattle.day.specs.State.{Day, fresh_day, line_count, line_of, no_sheet, security_count}
 use Rattle.day.specs.Step.{Told, line_sale_of, run, step, tells}
 
 abbrev pub kept_if : {X : Type 0} → Bool → X → List X → List X

@@ -1,5 +1,5 @@
 -- What a line's calls are answered and what they make of the line. They look at the market and at the line alone.
-use Rattle.std.specs.Prelude.{ℕ, ◌+◌, Bool, true, false, cond, not, ◌||◌, List, [], ◌∷◌, get_or, Some, None, Ok, Err, Option, Result, nat_le, nat_lt, slice_index_or, slice_set}
+use Rattle.std.specs.Prelude.{ℕ, ◌+◌, Bool, true, false, not, ◌||◌, List, [], ◌∷◌, get_or, Some, None, Ok, Err, Option, Result, nat_le, nat_lt, slice_index_or, slice_set}
 use Rattle.std.specs.Option.{is_some}
 use Rattle.books.specs.Sets.{Sets}
 use Rattle.inquiry.specs.Inquiry.{inquiry_bytes}
@@ -24,7 +24,6 @@ use Rattle.stats.specs.declared.record.MarketCenterRecord.{MarketCenterRecord}
 use Rattle.stats.specs.declared.sale.Sale.{Sale}
 use Rattle.verdicts.specs.Row.{trade_number}
 use Rattle.verdicts.specs.declared.answer.Answer.TheVariants.{Taken, Failed}
-use Rattle.verdicts.specs.declared.answer.Reason.{Reason}
 use Rattle.verdicts.specs.declared.answer.Verdict.{Verdict}
 use Rattle.verdicts.specs.declared.answer.Verdict.TheVariants.{PassedOver, Rejected, Cut}
 use Rattle.verdicts.specs.declared.row.Row.{Row}

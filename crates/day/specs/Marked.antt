@@ -1,11 +1,10 @@
 -- The marked cases: on one list, one book and one day, what a frame is answered and what stands after it.
-use Rattle.std.specs.Prelude.{◌≡◌, ℕ, zero, suc, ◌+◌, ◌-◌, Bool, true, false, cond, List, [], ◌∷◌, ◌++◌, map, length, take, replicate, Some, None, codes, Option}
+use Rattle.std.specs.Prelude.{◌≡◌, ℕ, ◌+◌, ◌-◌, Bool, true, false, cond, List, [], ◌∷◌, ◌++◌, map, length, take, replicate, Some, None, codes, Option}
 use Rattle.books.specs.Sets.{Sets}
 use Rattle.books.specs.SheetSets.{Clean, sheet_sets}
 use Rattle.codes.specs.declared.book_row.BookRow.{BookRow}
 use Rattle.codes.specs.declared.book_row.BookRow.TheVariants.{Flag, Side, Value, Barred}
 use Rattle.sheets.specs.declared.bucket.Bucket.TheVariants.{One, Two, Three, Four}
-use Rattle.stats.specs.declared.plain_sheet.PlainSheet.{PlainSheet}
 use Rattle.stats.specs.declared.record.MarketCenterRecord.{MarketCenterRecord}
 use Rattle.stats.specs.declared.record.QuoteMark.{QuoteMark}
 use Rattle.stats.specs.declared.record.QuoteMark.TheVariants as mark

@@ -8,7 +8,7 @@ use Rattle.stats.specs.declared.plain_sheet.PlainSheet.{PlainSheet}
 use Rattle.stats.specs.declared.sale.LastSale.{LastSale}
 use Rattle.stats.specs.declared.sale.LineSale.{LineSale}
 use Rattle.tape.specs.TapeLine.{tape_line}
-use Rattle.day.specs.Call.{Call, of_line, of_operator, LineCall, OperatorCall, Reply, refused, done, Taken}
+use Rattle.day.specs.Call.{Call, of_line, of_operator, Reply, refused, done, Taken}
 use Rattle.day.specs.LineCalls.{Turn, line_refusal, line_turn, sale_of}
 use Rattle.day.specs.Operator.{operator_refusal, operated}
 use Rattle.day.specs.State.{Day, Market, line_of, no_sheet, security_count, with_part}

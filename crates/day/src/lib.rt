@@ -1,3 +1,5 @@
 // The practice day, by definition.
+#![tactic(auto)]
+
 pub mod laws;
 pub mod marked;

@@ -1,4 +1,6 @@
 // Reads a recording of frames and prints what each one holds.
+#![tactic(auto)]
+
 mod board;
 mod recording;
 mod report_text;

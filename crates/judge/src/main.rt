@@ -1,4 +1,6 @@
 // Judges each frame of a recording by the sheets of a practice day, and prints the answers.
+#![tactic(auto)]
+
 mod answer_text;
 mod fault_text;
 mod open_day;

@@ -1,7 +1,6 @@
 -- The kind that a frame's letters name, and a frame whose letters name none.
-use Rattle.std.proofs.Common.{◌≡◌, ℕ, Bool, true, false, cond, ◌&&◌, eqb, leb, List, length, get_or, Some, Err, codes, Option, sym, refl, ap, ◌∙◌, arith}
+use Rattle.std.proofs.Common.{◌≡◌, ℕ, Bool, true, false, cond, ◌&&◌, eqb, leb, List, length, get_or, Some, Err, codes, Option, refl, ap, ◌∙◌, arith}
 use Rattle.books.specs.Sets.{Sets}
-use Rattle.rows.specs.Asked.{cut_unless, failing}
 use Rattle.rows.specs.Judged.{judgement}
 use Rattle.rows.specs.declared.context.Context.{Context}
 use Rattle.verdicts.specs.declared.answer.Verdict.{Verdict}

@@ -1,2 +1,4 @@
 // What the processor makes of a frame that comes on a line.
+#![tactic(auto)]
+
 pub mod judge;

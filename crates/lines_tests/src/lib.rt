@@ -1,3 +1,5 @@
+#![tactic(auto)]
+
 // Examples for the judgement of frames. What each frame is told was worked out by hand from the published tables of rows, which are
 // typed here once more, never by the code under test.
 #[cfg(test)]

@@ -1,4 +1,6 @@
 // Checks the two day sheets of a practice day, and prints what they hold or what is wrong with them.
+#![tactic(auto)]
+
 mod book_text;
 mod fault_text;
 mod list_text;

@@ -1,5 +1,5 @@
 -- The rows of a list sheet that is read to its end are a market.
-use Rattle.std.proofs.Common.{◌≡◌, ℕ, ◌+◌, ◌-◌, ◌≤◌, Bool, true, false, cond, not, ◌&&◌, ◌||◌, eqb, leb, List, [], ◌∷◌, ◌++◌, length, replicate, IfSome, IfOk, Some, None, Ok, Err, Option, sym, refl, ap, ◌∙◌, subst, arith}
+use Rattle.std.proofs.Common.{◌≡◌, ℕ, ◌+◌, ◌-◌, ◌≤◌, Bool, true, false, cond, not, ◌&&◌, eqb, leb, List, [], ◌∷◌, ◌++◌, length, replicate, IfSome, IfOk, Some, None, Ok, Err, Option, sym, refl, ap, ◌∙◌, subst, arith}
 use Rattle.std.specs.Str.{bytes_eq}
 use Rattle.std.proofs.lemmas.Slice.Eq.{bytes_eq-Decides}
 use Rattle.std.proofs.lemmas.List.{append-nil, length-append, length_push, length-replicate}
@@ -13,7 +13,7 @@ use Rattle.sheets.specs.declared.fault.FieldFault.TheVariants.{UnknownRow}
 use Rattle.cuts.specs.Cut.{field_of, has, only_byte}
 use Rattle.sheets.specs.Layers.{line_of, row_in}
 use Rattle.sheets.specs.Forms.{all_visible, symbol_by, symbol_field, originator_by, originator_field}
-use Rattle.lists.specs.ListRows.{security_row, line_row, list_row_by, list_row, securities, lines, latest, ascends, among, list_rules, list_whole}
+use Rattle.lists.specs.ListRows.{security_row, line_row, list_row_by, securities, lines, latest, ascends, among, list_rules, list_whole}
 use Rattle.lists.specs.Market.{ascend_from, distinct, all_long, none_has, OriginatorList, SymbolList}
 use Rattle.lists.proofs.Commas.{field_lacks, padding_lacks, none_push}
 use Rattle.sheets.proofs.Formed.{choice_made, counted_made, then_made, formed_made, line_made}

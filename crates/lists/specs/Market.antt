@@ -1,8 +1,7 @@
 -- The market of a practice day: its securities and its lines.
 use Rattle.std.specs.Prelude.{◌≡◌, ℕ, zero, suc, ◌≤◌, Bool, true, false, not, ◌&&◌, List, [], ◌∷◌, length, Some, None, Option, ◌==◌}
 use Rattle.cuts.specs.Cut.{has}
-use Rattle.lists.specs.declared.list_row.ListRow.{ListRow}
-use Rattle.lists.specs.ListRows.{ascends, among, securities, lines}
+use Rattle.lists.specs.ListRows.{ascends, among}
 
 -- each symbol stands before the next
 abbrev pub ascend_from : Option (List ℕ) → List (List ℕ) → Bool

@@ -1,3 +1,5 @@
+#![tactic(auto)]
+
 // Examples of finding securities and of mass trading actions, worked out by hand.
 #[cfg(test)]
 mod action_tests;

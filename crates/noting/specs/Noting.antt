@@ -1,5 +1,5 @@
 -- A report entered on a sheet that is kept as a plain record.
-use Rattle.std.specs.Prelude.{ℕ, ◌+◌, ◌^◌, Bool, cond, ◌&&◌, Some, None, Option, nat_lt}
+use Rattle.std.specs.Prelude.{◌+◌, ◌^◌, Bool, cond, ◌&&◌, Some, None, Option, nat_lt}
 use Rattle.stats.specs.Plain.{noted, sound}
 use Rattle.stats.specs.declared.entry.Entry.{Entry}
 use Rattle.stats.specs.declared.plain_sheet.PlainSheet.{PlainSheet}

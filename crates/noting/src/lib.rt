@@ -1,2 +1,4 @@
 // Reports entered on sheets that are kept as plain records.
+#![tactic(auto)]
+
 pub mod plain_sheet;

@@ -1,12 +1,12 @@
 -- A call on a day, by its first refusal.
-use Rattle.std.proofs.Common.{◌≡◌, ℕ, List, [], Some, None, Option, sym, refl, ap, ◌∙◌}
+use Rattle.std.proofs.Common.{◌≡◌, ℕ, List, Some, None, sym, ap}
 use Rattle.books.specs.Sets.{Sets}
 use Rattle.states.specs.declared.refusal.Refusal.{Refusal}
-use Rattle.day.specs.Call.{LineCall, OperatorCall, hang_up, inquire, log_in, of_line, of_operator, send}
+use Rattle.day.specs.Call.{LineCall, OperatorCall, of_line, of_operator, send}
 use Rattle.day.specs.LineCalls.{line_refusal, line_turn}
 use Rattle.day.specs.Operator.{operated, operator_refusal}
 use Rattle.day.specs.State.{Day, line_of}
-use Rattle.day.specs.Step.{Step, market_after, refusing, step, turned, unless_barred}
+use Rattle.day.specs.Step.{market_after, refusing, step, turned, unless_barred}
 use Rattle.processor.specs.Bars.{line_bar, operator_bar}
 use Rattle.processor.specs.Turns.{frame_turn}
 

@@ -1,5 +1,5 @@
 -- Records cleared one after another, and the front of an array that is all the same.
-use Rattle.std.proofs.Common.{◌≡◌, ℕ, zero, suc, ◌+◌, ◌<◌, ◌≤◌, List, [], ◌∷◌, ◌++◌, length, take, drop, set, replicate, sym, refl, ap, ◌∙◌, arith}
+use Rattle.std.proofs.Common.{◌≡◌, ℕ, zero, suc, ◌+◌, ◌<◌, ◌≤◌, List, [], ◌∷◌, length, take, set, replicate, refl, ap, ◌∙◌, arith}
 use Rattle.stats.specs.Records.{fresh_record}
 use Rattle.stats.specs.declared.record.MarketCenterRecord.{MarketCenterRecord}
 use Rattle.processor.specs.Held.{cleared}

@@ -1,5 +1,5 @@
 -- What holds of a day holds after each call.
-use Rattle.std.proofs.Common.{◌≡◌, ℕ, zero, suc, ◌+◌, ◌*◌, ◌<◌, ◌≤◌, true, List, [], ◌∷◌, length, drop, set, replicate, Some, None, Option, sym, refl, ap, ◌∙◌, subst, arith, length-set}
+use Rattle.std.proofs.Common.{◌≡◌, ℕ, zero, suc, ◌+◌, ◌*◌, ◌<◌, ◌≤◌, true, List, [], ◌∷◌, length, drop, replicate, Some, None, Option, sym, refl, ap, ◌∙◌, subst, length-set}
 use lib.ListN.{length-replicate}
 use Rattle.std.specs.List.{AllByRecursion as All}
 use Rattle.std.proofs.ByRecursion.{All-drop, All-take}
@@ -12,13 +12,13 @@ use Rattle.stats.specs.Records.{fresh_record}
 use Rattle.stats.specs.declared.plain_sheet.PlainSheet.{PlainSheet}
 use Rattle.stats.specs.declared.record.MarketCenterRecord.{MarketCenterRecord}
 use Rattle.stats.specs.declared.sale.LastSale.{LastSale}
-use Rattle.day.specs.Call.{Call, LineCall, OperatorCall, close_day, of_line, of_operator, open_day, post}
+use Rattle.day.specs.Call.{LineCall, OperatorCall, close_day, of_line, of_operator, open_day, post}
 use Rattle.day.specs.Laws.{IsBytes}
-use Rattle.day.specs.LineCalls.{line_refusal, line_turn}
+use Rattle.day.specs.LineCalls.{line_refusal}
 use Rattle.day.specs.Operator.{destination, in_state, operated, operator_refusal}
 use Rattle.day.specs.State.{Day, Line, Market, fresh_day, line_count, line_of, no_sheet, part_of, security_count}
 use Rattle.day.specs.Step.{step}
-use Rattle.day.proofs.Bounds.{Fits, Within, bounded, fresh_kept, line_step, operator_step}
+use Rattle.day.proofs.Bounds.{bounded, fresh_kept, line_step, operator_step}
 use Rattle.day.proofs.Bounds.{Kept as Numbered}
 use Rattle.day.proofs.Cuts.{at_fresh, line_kept}
 use Rattle.day.proofs.Parts.{ends_before, part-front}

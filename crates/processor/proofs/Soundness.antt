@@ -1,5 +1,5 @@
 -- Sheets stay sound.
-use Rattle.std.proofs.Common.{◌≡◌, ℕ, zero, suc, ◌≤◌, min, max, Bool, true, false, cond, leb, List, [], ◌∷◌, get_or, set, Some, None, Ok, Err, Option, Result, sym, refl, ap, ◌∙◌, subst, arith}
+use Rattle.std.proofs.Common.{◌≡◌, ℕ, zero, suc, min, max, Bool, true, false, cond, List, [], ◌∷◌, get_or, Some, None, Ok, Err, Option, Result, refl, arith}
 use Rattle.std.proofs.lemmas.Bool.{le-leb, leb-true}
 use Rattle.books.specs.Sets.{Sets}
 use Rattle.lines.specs.Judgement.{judged}
@@ -21,9 +21,9 @@ use Rattle.stats.specs.declared.record.MarketCenterRecord.{MarketCenterRecord}
 use Rattle.stats.specs.declared.sale.LastSale.{LastSale}
 use Rattle.verdicts.specs.declared.answer.Verdict.{Verdict}
 use Rattle.verdicts.specs.declared.answer.Verdict.TheVariants.{PassedOver, Rejected, Cut}
-use Rattle.day.specs.Call.{Call, LineCall, OperatorCall, Taken, hang_up, inquire, log_in, of_line, of_operator, send}
-use Rattle.day.specs.LineCalls.{Turn, after_reject, after_verdict, changed_at, consumes_id, context_of, frame_place, id_consumed, line_refusal, line_turn, marked_by, range_of, record_at, report_taken, sale_of, send_turn}
-use Rattle.day.specs.State.{Day, Line, Market, no_sheet}
+use Rattle.day.specs.Call.{LineCall, Taken, hang_up, inquire, log_in, send}
+use Rattle.day.specs.LineCalls.{after_reject, after_verdict, changed_at, consumes_id, context_of, frame_place, id_consumed, line_turn, marked_by, range_of, record_at, report_taken, sale_of, send_turn}
+use Rattle.day.specs.State.{Line, Market, no_sheet}
 use Rattle.day.specs.Step.{line_sale_of, sheets_after}
 use Rattle.day.proofs.Bounds.{at_set}
 use Rattle.day.proofs.Steps.{line_by}

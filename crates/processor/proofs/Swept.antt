@@ -1,5 +1,5 @@
 -- A sweep over all records from a line's first on is one over the line's part.
-use Rattle.std.proofs.Common.{◌≡◌, ℕ, suc, ◌+◌, ◌*◌, ◌≤◌, cond, List, [], ◌∷◌, ◌++◌, length, take, drop, Some, None, sym, refl, ap, ◌∙◌, drop-drop}
+use Rattle.std.proofs.Common.{◌≡◌, ℕ, ◌+◌, ◌*◌, ◌≤◌, cond, List, [], ◌∷◌, ◌++◌, length, take, drop, Some, None, refl, ap, ◌∙◌, drop-drop}
 use Rattle.std.proofs.lemmas.Bool.{le-leb}
 use Rattle.marks.specs.Sweep.{is_swept, sweep_leaves, sweep_tells, swept, swept_count, swept_record}
 use Rattle.marks.specs.declared.range.SymbolRange.{SymbolRange}

@@ -1,5 +1,5 @@
 -- A turn of a line as what is put at the places of a day.
-use Rattle.std.proofs.Common.{◌≡◌, ℕ, zero, suc, ◌+◌, ◌*◌, ◌<◌, List, [], ◌∷◌, ◌++◌, length, get_or, take, drop, set, sym, refl, ap, ◌∙◌, take-append-drop, drop-drop}
+use Rattle.std.proofs.Common.{◌≡◌, ℕ, ◌*◌, List, ◌++◌, take, drop, set, sym, ap, ◌∙◌, take-append-drop, drop-drop}
 use lib.Seq.{set-get_or}
 use Rattle.states.specs.LineStatus.{fresh_line}
 use Rattle.states.specs.declared.line_status.LineStatus.{LineStatus}

@@ -1,7 +1,6 @@
 -- What the processor holds, as the day that it is, and a day with something else at one place.
 use Rattle.std.specs.Prelude.{◌≡◌, ℕ, ◌*◌, ◌≤◌, List, ◌++◌, length, take, drop, replicate, Some, slice_set}
 use Rattle.lists.specs.Listed.{lines_of, securities_of}
-use Rattle.rows.specs.declared.context.Phase.{Phase}
 use Rattle.states.specs.declared.line_status.LineStatus.{LineStatus}
 use Rattle.states.specs.declared.security_status.SecurityStatus.{SecurityStatus}
 use Rattle.stats.specs.Records.{fresh_record}

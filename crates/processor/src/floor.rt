@@ -14,11 +14,11 @@ pub(crate) mod calls;
 pub(crate) mod effects;
 pub(crate) mod frames;
 pub(crate) mod making;
-pub(crate) mod sweeps;
 pub(crate) mod places;
 pub(crate) mod refusals;
 pub(crate) mod reports;
 pub(crate) mod sends;
+pub(crate) mod sweeps;
 
 // Of each array only the places of lines and securities on the list are in use. The records are lent: line after line, and in a line
 // security after security.

@@ -1,4 +1,6 @@
 // The processor of a practice day.
+#![tactic(auto)]
+
 mod day;
 mod floor;
 mod parts;

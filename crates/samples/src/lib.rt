@@ -1,3 +1,5 @@
+#![tactic(auto)]
+
 // The day sheets that the programs are tried on.
 pub const LIST: &[u8] = b"L,QU\nL,JU\nS,A\nS,AB\nS,ABC\nS,B\nS,BA\n";
 

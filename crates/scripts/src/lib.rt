@@ -1,4 +1,6 @@
 // The scripts of practice days: texts with one call a line, as a person writes them.
+#![tactic(auto)]
+
 mod call_name;
 pub mod hex;
 pub mod malformed;

@@ -1,3 +1,5 @@
+#![tactic(auto)]
+
 // Lines of scripts by hand, good and bad, and what each is read as.
 #[cfg(test)]
 mod bad_lines;

@@ -1,7 +1,7 @@
 -- What holds of a field holds of the row that is made of it.
-use Rattle.std.proofs.Common.{◌≡◌, ℕ, Bool, true, false, cond, eqb, List, IfSome, IfOk, Some, None, Ok, Err, Option, Result}
+use Rattle.std.proofs.Common.{ℕ, Bool, true, false, cond, eqb, List, IfSome, IfOk, Some, None, Ok, Err, Option, Result}
 use Rattle.sheets.specs.declared.fault.FieldFault.{FieldFault}
-use Rattle.sheets.specs.declared.fault.FieldFault.TheVariants.{FieldCount, UnknownRow}
+use Rattle.sheets.specs.declared.fault.FieldFault.TheVariants.{FieldCount}
 use Rattle.sheets.specs.declared.fault.LineFault.{LineFault}
 use Rattle.cuts.specs.Cut.{field_count}
 use Rattle.sheets.specs.Layers.{Rules, row_in}

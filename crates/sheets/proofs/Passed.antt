@@ -1,14 +1,14 @@
 -- What holds of the rows of a sheet that is read to its end.
-use Rattle.std.proofs.Common.{◌≡◌, ℕ, ◌+◌, Bool, true, false, cond, ◌||◌, leb, List, [], ◌∷◌, ◌++◌, length, take, drop, IfOk, Some, None, Ok, Err, Option, Result, sym, refl, ap, ◌∙◌, subst, arith}
+use Rattle.std.proofs.Common.{◌≡◌, ℕ, Bool, true, false, cond, ◌||◌, leb, List, [], ◌∷◌, ◌++◌, length, take, drop, IfOk, Some, None, Ok, Err, Option, Result, sym, refl, ap, ◌∙◌, subst, arith}
 use Rattle.std.proofs.lemmas.List.{take_at}
 use Rattle.sheets.specs.declared.fault.FieldFault.{FieldFault}
 use Rattle.sheets.specs.declared.fault.Fault.{Fault}
 use Rattle.sheets.specs.declared.fault.SheetFault.{SheetFault}
-use Rattle.sheets.specs.declared.fault.SheetFault.TheVariants.{Field, OutOfOrder, TooMany, Incomplete}
+use Rattle.sheets.specs.declared.fault.SheetFault.TheVariants.{OutOfOrder, TooMany, Incomplete}
 use Rattle.cuts.specs.Cut.{parts}
 use Rattle.sheets.specs.Layers.{Rules, line_of, row_in, placed}
 use Rattle.sheets.specs.Reading.{Faultless, Outcome, ended, step, reading, sheet_of, table_after}
-use Rattle.sheets.specs.Told.{answer_by, answer_of, told_of}
+use Rattle.sheets.specs.Told.{answer_by, answer_of}
 
 -- a row that is placed is the line's, in order, and not one too many
 pub record Stands {Row : Type 0} (rules : Rules Row) (seen : List Row) (r : Result Row FieldFault) (row : Row) : Type 0 where

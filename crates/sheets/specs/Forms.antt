@@ -1,5 +1,5 @@
 -- The forms of a line's fields.
-use Rattle.std.specs.Prelude.{ℕ, Bool, true, false, cond, ◌&&◌, List, [], ◌∷◌, length, Some, None, Ok, Err, Option, Result, ◌==◌, nat_le}
+use Rattle.std.specs.Prelude.{ℕ, Bool, true, cond, ◌&&◌, List, [], ◌∷◌, length, Some, None, Ok, Err, Option, Result, ◌==◌, nat_le}
 use Rattle.text.specs.Printable.{printable}
 use Rattle.text.specs.Symbol.{symbol_of}
 use Rattle.sheets.specs.declared.fault.FieldFault.{FieldFault}

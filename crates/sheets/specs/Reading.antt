@@ -1,5 +1,5 @@
 -- A sheet read whole: the rows before its first fault, and the fault.
-use Rattle.std.specs.Prelude.{◌≡◌, ℕ, ◌+◌, Bool, true, false, cond, List, [], ◌∷◌, ◌++◌, length, drop, Some, None, Ok, Err, Option, Result}
+use Rattle.std.specs.Prelude.{◌≡◌, ℕ, cond, List, [], ◌∷◌, ◌++◌, length, drop, Some, None, Ok, Err, Option, Result}
 use Rattle.sheets.specs.declared.fault.LineFault.TheVariants.{Unended}
 use Rattle.sheets.specs.declared.fault.FieldFault.TheVariants.{Line}
 use Rattle.sheets.specs.declared.fault.SheetFault.{SheetFault}

@@ -1,3 +1,5 @@
+#![tactic(auto)]
+
 // Hand-made day sheets, and what each is read as.
 #[cfg(test)]
 mod expect;

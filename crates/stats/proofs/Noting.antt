@@ -1,12 +1,11 @@
 -- One more report on a sheet, and reports in another order.
-use Rattle.std.proofs.Common.{◌≡◌, ℕ, ◌+◌, Bool, true, false, cond, List, [], ◌∷◌, ◌++◌, Some, None, Option, sym, refl, ap, ◌∙◌, arith}
-use Rattle.std.specs.List.Sorted.{IsPermutation}
+use Rattle.std.proofs.Common.{◌≡◌, ℕ, Bool, true, false, cond, List, [], ◌∷◌, ◌++◌, Some, None, Option, sym, refl, ap, ◌∙◌, arith}
 use Rattle.stats.specs.declared.entry.Entry.{Entry}
 use Rattle.conditions.specs.declared.matrix.Says.{Says}
 use Rattle.conditions.specs.declared.matrix.Says.TheVariants.{Yes, First, No}
 use Rattle.stats.specs.declared.plain_sheet.PlainSheet.{PlainSheet}
-use Rattle.stats.specs.Plain.{higher, lower, or_else, last_after, noted}
-use Rattle.stats.specs.Reports.{highest, lowest, total, if_yes, if_first, latest_yes, earliest_first, sheet_of, Noted, SameTotals, Unordered}
+use Rattle.stats.specs.Plain.{or_else, last_after, noted}
+use Rattle.stats.specs.Reports.{if_yes, if_first, latest_yes, earliest_first, sheet_of, Noted, Unordered}
 use Rattle.stats.proofs.Joins.{sums, highs, lows, joined-push, joined-shuffled}
 
 or_else_none : {X : Type 0} (a : Option X) → or_else a None ≡ a

@@ -1,5 +1,5 @@
 -- A symbol is the eleven bytes that name a security: 1 to 11 bytes of text, padded on the right with spaces.
-use Rattle.std.specs.Prelude.{ℕ, ◌-◌, Bool, true, false, cond, ◌&&◌, ◌||◌, List, [], ◌∷◌, ◌++◌, length, replicate, Some, None, Option, ◌==◌, nat_le, nat_lt}
+use Rattle.std.specs.Prelude.{ℕ, ◌-◌, Bool, true, false, cond, ◌&&◌, List, [], ◌∷◌, ◌++◌, length, replicate, Some, None, Option, ◌==◌, nat_le, nat_lt}
 
 -- a text as a symbol, where it is not empty and not too long
 abbrev pub symbol_of : List ℕ → Option (List ℕ)

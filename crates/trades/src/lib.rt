@@ -1,4 +1,6 @@
 // The trade report as a kind of frame.
+#![tactic(auto)]
+
 mod condition_rows;
 mod frame_parts;
 pub mod trade_kind;

@@ -1,2 +1,4 @@
 // What is wrong with a frame, in words for people.
+#![tactic(auto)]
+
 pub mod rule;

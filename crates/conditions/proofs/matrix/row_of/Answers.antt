@@ -1,4 +1,4 @@
-use Rattle.std.proofs.Common.{◌≡◌, ℕ, List, [], ◌∷◌, codes, refl, ap, ◌∙◌, rules}
+use Rattle.std.proofs.Common.{◌≡◌, ℕ, List, codes, refl, ap, ◌∙◌, rules}
 use Rattle.conditions.specs.Matrix.{row_of, row_lettered}
 use Rattle.conditions.specs.declared.matrix.Row.{Row}
 use Rattle.conditions.specs.declared.matrix.Row.TheVariants.{Regular, FirstLast, VolumeOnly, OfficialClose, OfficialOpen, CorrectedClose, Silent}

@@ -1,4 +1,4 @@
-use Rattle.std.proofs.Common.{◌≡◌, ◌+◌, arith, eq-eqb, ne_eqb}
+use Rattle.std.proofs.Common.{arith, eq-eqb, ne_eqb}
 use Rattle.cuts.proofs.Cuts.{count_found, count_more, count_end}
 use Rattle.cuts.proofs.cut.field_count.Goals as goal
 use Rattle.cuts.proofs.cut.field_count.Goals.{then-byte-eq44, else-byte-eq44}

@@ -1,4 +1,4 @@
-use Rattle.std.proofs.Common.{◌≡◌, arith, eq-eqb, ne_eqb}
+use Rattle.std.proofs.Common.{arith, eq-eqb, ne_eqb}
 use Rattle.cuts.proofs.Cuts.{scan_found, scan_more, scan_end, reached}
 use Rattle.cuts.proofs.cut.reach.Goals as goal
 

@@ -1,5 +1,4 @@
-use Rattle.std.proofs.Common.{◌≡◌, sym, ◌∙◌}
-use Rattle.lines.specs.Judgement.{judged}
+use Rattle.std.proofs.Common.{sym, ◌∙◌}
 use Rattle.lines.proofs.Named.{judged_mass_lem, judged_trade_lem, unknown_cut}
 use Rattle.lines.proofs.judge.judge.Goals as goal
 

@@ -1,4 +1,4 @@
-use Rattle.std.proofs.Common.{◌≡◌, ◌+◌, ◌≤◌, length, drop, None}
+use Rattle.std.proofs.Common.{◌≡◌, ◌+◌, length, drop, None}
 use Rattle.lists.specs.ListRows.{securities, lines, latest}
 use Rattle.lists.proofs.list_row.count_rows.Given as goal
 

@@ -1,4 +1,4 @@
-use Rattle.std.proofs.Common.{◌≡◌, sym, ap, ◌∙◌}
+use Rattle.std.proofs.Common.{sym, ap, ◌∙◌}
 use Rattle.stats.specs.Entries.{consolidated_entry}
 use Rattle.stats.specs.Plain.{noted}
 use Rattle.processor.proofs.Notes.{noted_some}

@@ -1,4 +1,4 @@
-use Rattle.std.proofs.Common.{◌≡◌, map, sym, ap, ◌∙◌}
+use Rattle.std.proofs.Common.{map, sym, ap, ◌∙◌}
 use Rattle.wire.specs.Header.{asked_of, first_failing as headerFailing}
 use Rattle.rows.specs.Asked.{first_failing}
 use Rattle.rows.specs.HeaderRows.{cutting, line_rows}

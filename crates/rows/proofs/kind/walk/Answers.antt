@@ -1,4 +1,4 @@
-use Rattle.std.proofs.Common.{◌≡◌, sym, ap, ◌∙◌}
+use Rattle.std.proofs.Common.{sym, ap, ◌∙◌}
 use Rattle.wire.specs.Header.{asked_of}
 use Rattle.rows.specs.Asked.{first_failing}
 use Rattle.rows.specs.HeaderRows.{header_rows, line_rows}

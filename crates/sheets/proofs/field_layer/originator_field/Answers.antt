@@ -1,4 +1,4 @@
-use Rattle.std.proofs.Common.{◌≡◌, ℕ, true, cond, ◌&&◌, List, [], ◌∷◌, length, get_or, Some, None, Ok, sym, refl, ap, ◌∙◌, arith}
+use Rattle.std.proofs.Common.{◌≡◌, ℕ, true, cond, List, [], ◌∷◌, length, get_or, Some, None, Ok, ap, ◌∙◌, arith}
 use Rattle.sheets.specs.Forms.{all_visible, formed, originator_by}
 use Rattle.sheets.proofs.field_layer.originator_field.Goals as goal
 

@@ -1,4 +1,4 @@
-use Rattle.std.proofs.Common.{◌≡◌, ◌/◌, ◌%◌, ◌<◌, cond, [], ◌∷◌, ◌++◌, string_bytes, codes, sym, ap, ◌∙◌, arith}
+use Rattle.std.proofs.Common.{◌/◌, ◌%◌, cond, [], ◌∷◌, ◌++◌, string_bytes, codes, ap, ◌∙◌, arith}
 use Rattle.std.proofs.lemmas.List.{append_assoc}
 use Rattle.show.specs.Quoted.{hex_digit}
 use Rattle.show.proofs.Escapes.{hex_ascii, pushed_ascii}

@@ -1,4 +1,4 @@
-use Rattle.std.proofs.Common.{◌≡◌, ◌-◌, cond, ◌&&◌, leb, ◌++◌, length, drop, replicate, Some, None, sym, ap, ◌∙◌, arith}
+use Rattle.std.proofs.Common.{◌≡◌, ◌-◌, cond, leb, ◌++◌, length, drop, replicate, Some, None, sym, ap, ◌∙◌, arith}
 use Rattle.std.proofs.lemmas.List.{drop-replicate}
 use Rattle.std.proofs.lemmas.Bool.{le-leb, and_from}
 use Rattle.text.proofs.symbol.padded.Goals as goal

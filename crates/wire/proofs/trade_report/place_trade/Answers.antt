@@ -1,4 +1,4 @@
-use Rattle.std.proofs.Common.{refl, arith, rules}
+use Rattle.std.proofs.Common.{arith, rules}
 use Rattle.wire.specs.Number.{bytes_of}
 use Rattle.wire.proofs.Numbers.{length-bytes}
 use Rattle.text.proofs.Overwriting.{begun, then_part, then_byte}

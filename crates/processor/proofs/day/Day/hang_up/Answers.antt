@@ -1,4 +1,4 @@
-use Rattle.std.proofs.Common.{◌≡◌, sym, subst}
+use Rattle.std.proofs.Common.{sym, subst}
 use Rattle.books.specs.Standard.{standard_sets}
 use Rattle.day.specs.Call.{hang_up}
 use Rattle.processor.specs.Held.{day_of}

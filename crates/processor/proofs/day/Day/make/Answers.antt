@@ -1,4 +1,4 @@
-use Rattle.std.proofs.Common.{◌≡◌, sym, subst}
+use Rattle.std.proofs.Common.{sym, subst}
 use Rattle.lists.specs.Listed.{lines_of, securities_of}
 use Rattle.processor.specs.Lawful.{Lawful}
 use Rattle.processor.proofs.Lawfully.{fresh_lawful}

@@ -1,6 +1,5 @@
-use Rattle.std.proofs.Common.{◌≡◌, Bool, true, false, Some, None, sym, ap, ◌∙◌}
+use Rattle.std.proofs.Common.{◌≡◌, false, Some, sym, ap, ◌∙◌}
 use Rattle.verdicts.specs.declared.answer.Answer.TheVariants.{Failed}
-use Rattle.verdicts.specs.declared.answer.Verdict.{Verdict}
 use Rattle.verdicts.specs.declared.answer.Verdict.TheVariants.{PassedOver, Rejected, Cut}
 use Rattle.day.specs.Call.{answered}
 use Rattle.day.specs.LineCalls.{after_reject, after_verdict, consumes_id, frame_consumed, quiet}

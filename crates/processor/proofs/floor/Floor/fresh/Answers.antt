@@ -1,4 +1,4 @@
-use Rattle.std.proofs.Common.{◌≡◌, length, take, ap, ◌∙◌, arith}
+use Rattle.std.proofs.Common.{length, take, ap, ◌∙◌}
 use Rattle.lists.specs.Listed.{lines_of, securities_of}
 use Rattle.rows.specs.declared.context.Phase.TheVariants.{Fresh}
 use Rattle.states.specs.LineStatus.{fresh_line}

@@ -3,7 +3,7 @@ use Rattle.books.specs.Sets.{Sets}
 use Rattle.day.specs.Call.{inquire, of_line, told}
 use Rattle.day.specs.LineCalls.{line_turn}
 use Rattle.day.specs.State.{line_of}
-use Rattle.day.specs.Step.{Step, buffer_after, refusing, step, turned}
+use Rattle.day.specs.Step.{buffer_after, refusing, step, turned}
 use Rattle.processor.specs.Held.{day_of}
 use Rattle.processor.proofs.Calls.{line_goes, line_refused}
 use Rattle.processor.proofs.Turns.{same_turn}

@@ -1,5 +1,5 @@
-use Rattle.std.proofs.Common.{◌≡◌, Some, None, Ok, sym, refl, ap, ◌∙◌}
-use Rattle.lines.specs.declared.judge.Message.TheVariants.{Trade, Mass}
+use Rattle.std.proofs.Common.{Ok, sym, ap, ◌∙◌}
+use Rattle.lines.specs.declared.judge.Message.TheVariants.{Trade}
 use Rattle.verdicts.specs.declared.answer.Answer.TheVariants.{Taken}
 use Rattle.day.specs.Call.{answered}
 use Rattle.day.specs.LineCalls.{send_turn}

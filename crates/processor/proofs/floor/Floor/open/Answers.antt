@@ -2,7 +2,7 @@ use Rattle.std.proofs.Common.{◌≡◌, sym, ap, ◌∙◌}
 use Rattle.books.specs.Sets.{Sets}
 use Rattle.day.specs.Call.{open_day, of_operator}
 use Rattle.day.specs.Operator.{operated}
-use Rattle.day.specs.Step.{Step, market_after, refusing, step}
+use Rattle.day.specs.Step.{market_after, refusing, step}
 use Rattle.processor.specs.Held.{day_of}
 use Rattle.processor.proofs.Calls.{operator_goes, operator_refused}
 use Rattle.processor.proofs.floor.Floor.open.Goals as goal

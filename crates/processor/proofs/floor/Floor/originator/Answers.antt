@@ -1,4 +1,4 @@
-use Rattle.std.proofs.Common.{◌≡◌, ℕ, [], sym, ◌∙◌, arith}
+use Rattle.std.proofs.Common.{◌≡◌, ℕ, sym, ◌∙◌, arith}
 use Rattle.lists.specs.Listed.{lines_of}
 use Rattle.processor.proofs.Arrays.{at_index_lem}
 use Rattle.processor.proofs.floor.Floor.originator.Goals as goal

@@ -1,4 +1,4 @@
-use Rattle.std.proofs.Common.{◌≡◌, get_or, ap, ◌∙◌}
+use Rattle.std.proofs.Common.{get_or, ap, ◌∙◌}
 use Rattle.stats.specs.Records.{no_record}
 use Rattle.day.specs.State.{security_count}
 use Rattle.processor.specs.Held.{day_of}

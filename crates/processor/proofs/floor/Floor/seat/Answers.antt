@@ -1,4 +1,4 @@
-use Rattle.std.proofs.Common.{◌≡◌, ap, ◌∙◌}
+use Rattle.std.proofs.Common.{ap, ◌∙◌}
 use Rattle.day.specs.Call.{ticket}
 use Rattle.day.specs.LineCalls.{seated}
 use Rattle.day.specs.State.{line_of}

@@ -1,4 +1,4 @@
-use Rattle.std.proofs.Common.{◌≡◌, length, sym, ap, ◌∙◌}
+use Rattle.std.proofs.Common.{length, sym, ap, ◌∙◌}
 use Rattle.day.specs.Call.{send}
 use Rattle.day.specs.Step.{buffer_after}
 use Rattle.processor.specs.Held.{day_of}

@@ -1,4 +1,4 @@
-use Rattle.std.proofs.Common.{◌≡◌, set, ap, ◌∙◌, arith}
+use Rattle.std.proofs.Common.{set, ap, ◌∙◌, arith}
 use Rattle.day.specs.State.{line_count, security_count}
 use Rattle.day.proofs.Parts.{ends_before}
 use Rattle.processor.specs.Held.{day_of}

@@ -1,6 +1,5 @@
-use Rattle.std.proofs.Common.{◌≡◌, length}
-use Rattle.lists.specs.Listed.{lines_of, securities_of}
-use Rattle.day.specs.State.{Day}
+use Rattle.std.proofs.Common.{length}
+use Rattle.lists.specs.Listed.{securities_of}
 use Rattle.processor.specs.Held.{day_of}
 use Rattle.processor.proofs.Arrays.{take-set}
 use Rattle.processor.proofs.floor.Floor.set_sheet.Goals as goal

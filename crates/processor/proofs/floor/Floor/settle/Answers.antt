@@ -1,4 +1,4 @@
-use Rattle.std.proofs.Common.{◌≡◌, sym, ap, ◌∙◌}
+use Rattle.std.proofs.Common.{sym, ap, ◌∙◌}
 use Rattle.day.specs.LineCalls.{send_turn}
 use Rattle.day.specs.Step.{buffer_after, turned}
 use Rattle.processor.specs.Held.{day_of}

@@ -1,4 +1,4 @@
-use Rattle.std.proofs.Common.{◌≡◌, None, sym, refl, ap, ◌∙◌}
+use Rattle.std.proofs.Common.{sym, ap, ◌∙◌}
 use Rattle.day.specs.LineCalls.{counted_by, marked_by}
 use Rattle.day.specs.State.{line_of, security_count}
 use Rattle.processor.specs.Held.{day_of, with_records}

@@ -1,4 +1,4 @@
-use Rattle.std.proofs.Common.{◌≡◌, ℕ, ◌+◌, ◌*◌, ◌≤◌, List, length, drop, Some, Option, sym, ap, ◌∙◌, arith}
+use Rattle.std.proofs.Common.{◌≡◌, ℕ, ◌+◌, ◌*◌, ◌≤◌, length, drop, Some, Option, sym, ap, ◌∙◌, arith}
 use Rattle.lists.specs.Listed.{securities_of}
 use Rattle.marks.specs.Sweep.{sweep_leaves, sweep_tells}
 use Rattle.day.specs.State.{line_count, security_count}

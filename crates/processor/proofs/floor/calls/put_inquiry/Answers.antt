@@ -1,4 +1,4 @@
-use Rattle.std.proofs.Common.{◌≡◌, ◌+◌, ◌-◌, cond, ◌++◌, length, drop, sym, ap, ◌∙◌, arith, length-append, length-drop, rules}
+use Rattle.std.proofs.Common.{◌≡◌, cond, ◌++◌, length, drop, ap, ◌∙◌, arith, length-append, length-drop, rules}
 use Rattle.std.proofs.lemmas.Bool.{le-leb}
 use Rattle.inquiry.specs.Inquiry.{inquiry_bytes}
 use Rattle.processor.proofs.floor.calls.put_inquiry.Goals as goal

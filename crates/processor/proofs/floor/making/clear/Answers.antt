@@ -1,4 +1,4 @@
-use Rattle.std.proofs.Common.{◌≡◌, set, ap, ◌∙◌, arith}
+use Rattle.std.proofs.Common.{set, ap, ◌∙◌, arith}
 use Rattle.processor.proofs.Fresh.{cleared_more}
 use Rattle.processor.proofs.floor.making.clear.Goals as goal
 
