@@ -1,6 +1,6 @@
 // The standard code book: the published codes of a trade report.
 ghost use Rattle.std.specs.Prelude.{◌≡◌};
-ghost use Rattle.books.specs.Standard.{reasons as reasonsOf, standard_sets, values as values_of};
+ghost use Rattle.books.specs.Standard.{reasons as reasons_of, standard_sets, values as values_of};
 
 use crate::code_book::CodeBook;
 use cuts::cut::contains;
@@ -22,7 +22,7 @@ fn values(bucket: Bucket) -> &'static [u8]
 
 // The second bytes of a condition that may stand beside a flag.
 fn reasons(flag: u8) -> &'static [u8]
-    ensures { result.now ≡ reasonsOf flag }
+    ensures { result.now ≡ reasons_of flag }
 {
     match flag {
         b'X' => values(Bucket::Two),

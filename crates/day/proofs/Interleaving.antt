@@ -11,24 +11,24 @@ use Rattle.day.specs.Laws.{InterleavingHarmless, anyone, at_place, calls_for, is
 use Rattle.day.specs.State.{fresh_day}
 use Rattle.day.specs.Step.{line_sale_of}
 use Rattle.day.proofs.Apart.{fresh_alike, fresh_sound}
-use Rattle.day.proofs.Shares.{all-shares, givenAt, joined_at, over, over-same}
+use Rattle.day.proofs.Shares.{all_shares, given_at, joined_at, over, over_same}
 use Rattle.day.proofs.Sheets.{sheets_of_reports}
 
 module _ {M : Type 0} {none : M} {op : M → M → M} (J : Joins none op) (f : LineSale → M) (sets : Sets) (symbols originators : List (List ℕ)) (start place : ℕ) where
   -- what the reports of a place bring together, by the lines' shares
   by_lines : (records : List MarketCenterRecord) (calls : List Call) →
       joined none op f (map line_sale_of (at_place place (taken_in anyone sets (fresh_day symbols originators start records) calls)))
-      ≡ over none op (length originators) (λ line. joined none op (givenAt J f line_sale_of place) (taken_in (is_of line) sets (fresh_day symbols originators start records) calls))
+      ≡ over none op (length originators) (λ line. joined none op (given_at J f line_sale_of place) (taken_in (is_of line) sets (fresh_day symbols originators start records) calls))
   by_lines records calls =
       let day = fresh_day symbols originators start records in
-      joined_at J f line_sale_of place (taken_in anyone sets day calls) ∙ all-shares J (givenAt J f line_sale_of place) sets calls day (fresh_sound symbols originators start records)
+      joined_at J f line_sale_of place (taken_in anyone sets day calls) ∙ all_shares J (given_at J f line_sale_of place) sets calls day (fresh_sound symbols originators start records)
 
   pub same-joined : (records others-records : List MarketCenterRecord) (calls others : List Call) → ((line : ℕ) → line < length originators → calls_for line calls ≡ calls_for line others) →
       joined none op f (map line_sale_of (at_place place (taken_in anyone sets (fresh_day symbols originators start records) calls)))
       ≡ joined none op f (map line_sale_of (at_place place (taken_in anyone sets (fresh_day symbols originators start others-records) others)))
   same-joined records others-records calls others same =
       by_lines records calls
-      ∙ over-same J (length originators) _ _ (λ line h. ap (λ reports. joined none op (givenAt J f line_sale_of place) reports) (fresh_alike sets symbols originators start records others-records line h calls others (same line h)).takes)
+      ∙ over_same J (length originators) _ _ (λ line h. ap (λ reports. joined none op (given_at J f line_sale_of place) reports) (fresh_alike sets symbols originators start records others-records line h calls others (same line h)).takes)
       ∙ sym (by_lines others-records others)
 
 pub interleaving_harmless : (sets : Sets) (symbols originators : List (List ℕ)) (start : ℕ) → InterleavingHarmless sets symbols originators start

@@ -21,7 +21,7 @@ use Rattle.day.specs.Step.{Told, line_sale_of, run, step, tells, told_of, writin
 use Rattle.day.proofs.Apart.{fresh_sound}
 use Rattle.day.proofs.Genuine.{Genuine, genuine, only_sends, sends_quietly, volume_bounded}
 use Rattle.day.proofs.Places.{placed, same_place}
-use Rattle.day.proofs.Shares.{all-shares, joined_at, over}
+use Rattle.day.proofs.Shares.{all_shares, joined_at, over}
 use Rattle.day.proofs.Sheets.{sheets_of_reports}
 use Rattle.day.proofs.Steps.{Sound, bytes_after, operates, operator_list, taken_after, visited}
 
@@ -55,7 +55,7 @@ over_centers : (sets : Sets) (symbols originators : List (List ℕ)) (start : �
     (sheet_at (run sets (fresh_day symbols originators start records) calls) place).volume ≡ over_lines (length originators) (λ line. (center_at (run sets (fresh_day symbols originators start records) calls) place line).volume)
 over_centers sets symbols originators start records calls place h =
     all_volume sets symbols originators start records calls place h
-    ∙ all-shares sums (adds place) sets calls (fresh_day symbols originators start records) (fresh_sound symbols originators start records)
+    ∙ all_shares sums (adds place) sets calls (fresh_day symbols originators start records) (fresh_sound symbols originators start records)
     ∙ over_lines_lem (length originators) _ _ (λ line k. sym (center_volume sets symbols originators start records calls place h line k))
 
 -- OVER THE TAPE

@@ -1,6 +1,6 @@
 -- The laws over whole runs of a practice day.
 use Rattle.std.specs.Prelude.{◌≡◌, ℕ, zero, suc, ◌+◌, ◌*◌, ◌<◌, ◌≤◌, Bool, true, false, cond, ◌&&◌, List, [], ◌∷◌, ◌++◌, map, length, get_or, take, Some, None, Option, ◌==◌, slice_index_or}
-use Rattle.std.specs.List.{AllByRecursion as All}
+use Rattle.std.specs.List.{AllByRecursion}
 use Rattle.std.specs.Str.{bytes_eq}
 use Rattle.books.specs.Sets.{Sets}
 use Rattle.conditions.specs.Condition.{counted}
@@ -127,7 +127,7 @@ tape_volumes symbol (line ∷ lines) = added_by_line symbol line + tape_volumes 
 -- frames come as bytes
 abbrev pub IsBytes : Call → Type 0
 IsBytes (of_line number log_in) = Unit {0}
-IsBytes (of_line number (send time frame room)) = All (λ b. b < 256) frame
+IsBytes (of_line number (send time frame room)) = AllByRecursion (λ b. b < 256) frame
 IsBytes (of_line number (inquire time symbol room)) = Unit {0}
 IsBytes (of_line number hang_up) = Unit {0}
 IsBytes (of_operator call) = Unit {0}
@@ -139,7 +139,7 @@ VolumesAddUp sets symbols originators start =
     (records : List MarketCenterRecord) (calls : List Call) (symbol : List ℕ) (place : ℕ) → place_of symbols symbol ≡ Some place →
     let day = fresh_day symbols originators start records in
     ((sheet_at (run sets day calls) place).volume ≡ over_lines (length originators) (λ line. (center_at (run sets day calls) place line).volume))
-    × (All IsBytes calls → (sheet_at (run sets day calls) place).volume ≡ tape_volumes symbol (tape_lines (tells sets day calls)))
+    × (AllByRecursion IsBytes calls → (sheet_at (run sets day calls) place).volume ≡ tape_volumes symbol (tape_lines (tells sets day calls)))
 
 -- INTERLEAVING IS HARMLESS
 
@@ -202,7 +202,7 @@ abbrev pub CutLasts : Sets → List (List ℕ) → List (List ℕ) → ℕ → T
 CutLasts sets symbols originators start =
     (records : List MarketCenterRecord) (calls more : List Call) (line : ℕ) (reason : Reason) →
     let day = fresh_day symbols originators start records in
-    (line_of line (run sets day calls)).status.cut ≡ Some reason → All (λ call. is_hang_up line call ≡ false) more →
+    (line_of line (run sets day calls)).status.cut ≡ Some reason → AllByRecursion (λ call. is_hang_up line call ≡ false) more →
     (line_of line (run sets day (calls ++ more))).status.cut ≡ Some reason
 
 -- the highest volume of one report
@@ -223,7 +223,7 @@ pub record Bounded (day : Day) : Type 0 where
 -- numbers never wrap
 abbrev pub NeverWraps : Sets → List (List ℕ) → List (List ℕ) → ℕ → Type 0
 NeverWraps sets symbols originators start =
-    (records : List MarketCenterRecord) (calls : List Call) → All IsBytes calls → Bounded (run sets (fresh_day symbols originators start records) calls)
+    (records : List MarketCenterRecord) (calls : List Call) → AllByRecursion IsBytes calls → Bounded (run sets (fresh_day symbols originators start records) calls)
 
 -- a law of every book, every list of a market and every start
 abbrev pub Always : (Sets → List (List ℕ) → List (List ℕ) → ℕ → Type 0) → Type 0

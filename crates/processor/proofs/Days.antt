@@ -1,7 +1,7 @@
 -- A day's own invariant, as what holds of the day that it is.
 use Rattle.processor.specs.Held.{day_of}
 use Rattle.processor.specs.Lawful.{Lawful}
-use Rattle.processor.specs.declared.day.Day.{Day}
+use Rattle.processor.specs.declared.practice_day.Day.{Day}
 
 pub of_day : (day : Day) → Lawful (day_of day.floor)
 of_day day = record {

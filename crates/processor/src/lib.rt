@@ -1,7 +1,7 @@
 // The processor of a practice day.
 #![tactic(auto)]
 
-mod day;
 mod floor;
 mod parts;
+mod practice_day;
 mod ticket;

@@ -2,7 +2,7 @@
 use Rattle.std.proofs.Common.{◌≡◌, ℕ, ◌+◌, ◌<◌, Bool, true, false, cond, List, [], ◌∷◌, ◌++◌, map, length, get_or, drop, Some, None, Ok, Err, Option, sym, refl, ap, ◌∙◌, arith}
 use Rattle.std.proofs.lemmas.List.{at_drop_more}
 use Rattle.verdicts.specs.declared.answer.Verdict.{Verdict}
-use Rattle.wire.specs.Header.{unless, Asked as HeaderAsked, first_failing as headerFailing}
+use Rattle.wire.specs.Header.{unless, Asked as HeaderAsked, first_failing as first_in_header}
 use Rattle.wire.specs.declared.header.HeaderRow.{HeaderRow}
 use Rattle.rows.specs.Asked.{Asked, failing, first_failing}
 use Rattle.rows.specs.HeaderRows.{cutting}
@@ -29,9 +29,9 @@ cut_by : (b : Bool) (x : Option Verdict) (y : Option HeaderRow) (row : HeaderRow
 cut_by true x y row e = e
 cut_by false x y row e = refl
 
-pub header_failing : (rows : List HeaderAsked) → first_failing (map cutting rows) ≡ as_cut (headerFailing rows)
+pub header_failing : (rows : List HeaderAsked) → first_failing (map cutting rows) ≡ as_cut (first_in_header rows)
 header_failing [] = refl
-header_failing (a ∷ rows) = cut_by a.holds (first_failing (map cutting rows)) (headerFailing rows) a.row (header_failing rows)
+header_failing (a ∷ rows) = cut_by a.holds (first_failing (map cutting rows)) (first_in_header rows) a.row (header_failing rows)
 
 pub none_told : {A : Type 0} (o : Option HeaderRow) (a : A) → unless o a ≡ Ok a → o ≡ None
 none_told None a e = refl
@@ -59,6 +59,6 @@ first_none None other e = refl
 first_none (Some row) other e = let z : ◌≡◌ {A = ℕ} 0 1 = cc in absurd (omega arith)
 
 -- where no row of the header fails, the frame reads as its kind
-pub reads : (rows : List HeaderAsked) (rest : List Asked) → first_failing (map cutting rows ++ rest) ≡ None → headerFailing rows ≡ None
+pub reads : (rows : List HeaderAsked) (rest : List Asked) → first_failing (map cutting rows ++ rest) ≡ None → first_in_header rows ≡ None
 reads rows rest e =
-    first_none (headerFailing rows) (first_failing rest) (ap (λ o. or_else o (first_failing rest)) (sym (header_failing rows)) ∙ sym (append-failing (map cutting rows) rest) ∙ e)
+    first_none (first_in_header rows) (first_failing rest) (ap (λ o. or_else o (first_failing rest)) (sym (header_failing rows)) ∙ sym (append-failing (map cutting rows) rest) ∙ e)

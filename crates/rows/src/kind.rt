@@ -1,7 +1,7 @@
 // Kinds of frames, and the one walk over the rows of any kind.
 ghost use Rattle.std.specs.Prelude.{◌≡◌, ℕ, ◌<◌, ◌≤◌, true, List, ◌++◌, length, None, slice_index_or};
 ghost use Rattle.books.specs.Sets.{Sets};
-ghost use Rattle.wire.specs.Header.{asked_of, first_failing as headerFailing};
+ghost use Rattle.wire.specs.Header.{asked_of, first_failing as first_in_header};
 ghost use Rattle.rows.specs.Asked.{Asked, failing, first_failing, pass_unless};
 ghost use Rattle.rows.specs.HeaderRows.{header_rows};
 ghost use Rattle.rows.specs.Judged.{judgement};
@@ -41,7 +41,7 @@ pub trait Kind {
         ensures { result ≡ count };
 
     fn read(frame: &[u8]) -> Self::Fields
-        requires { headerFailing (asked_of letters size frame.now) ≡ None }
+        requires { first_in_header (asked_of letters size frame.now) ≡ None }
         ensures { result ≡ fields frame.now };
 
     // What a row comes to, counted from 0.

@@ -1,7 +1,7 @@
 // Reads a sheet of any kind into a caller's table.
 ghost use Rattle.std.specs.Prelude.{◌≡◌, ◌<◌, ◌≤◌, true, length, IfOk, OnOk};
 ghost use Rattle.cuts.specs.Cut.{has};
-ghost use Rattle.sheets.specs.Layers.{row_in, next_line, placed as placedAs};
+ghost use Rattle.sheets.specs.Layers.{row_in, next_line, placed as placed_as};
 ghost use Rattle.sheets.specs.Reading.{sheet_of, table_after};
 ghost use Rattle.sheets.specs.Told.{answer_of};
 
@@ -19,7 +19,7 @@ fn next_row<R: SheetRow>(rest: &[u8]) -> Result<R, FieldFault>
 }
 
 fn next_placed<R: SheetRow>(rest: &[u8], seen: &[R], slots: usize) -> Result<R, SheetFault>
-    ensures value { result ≡ placedAs R.SheetRow.rules slots seen.now (row_in R.SheetRow.rules (next_line rest.now)) }
+    ensures value { result ≡ placed_as R.SheetRow.rules slots seen.now (row_in R.SheetRow.rules (next_line rest.now)) }
     ensures ended { OnOk result ((has 10 rest.now ≡ true) × (length seen.now < slots)) }
 {
     let row: R = next_row(rest)?;

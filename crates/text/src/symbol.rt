@@ -1,6 +1,6 @@
 // The symbol of a security, as frames carry it.
 ghost use Rattle.std.specs.Prelude.{◌≡◌, ◌≤◌, length, take};
-ghost use Rattle.text.specs.Symbol.{precedes as isBefore, symbol_of, text_of};
+ghost use Rattle.text.specs.Symbol.{precedes, symbol_of, text_of};
 
 // Eleven bytes: 1 to 11 bytes of text, padded on the right with spaces.
 pub type Symbol = [u8; 11];
@@ -40,7 +40,7 @@ pub fn unpadded(symbol: &[u8]) -> &[u8]
 
 // Whether one symbol stands before another, byte by byte.
 pub fn precedes(one: &[u8], other: &[u8]) -> bool
-    ensures { result ≡ isBefore one.now other.now }
+    ensures { result ≡ precedes one.now other.now }
 {
     one < other
 }

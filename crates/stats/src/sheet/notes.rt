@@ -1,7 +1,7 @@
 // How a sheet is made, read and added to.
 ghost use Rattle.std.specs.Prelude.{◌≡◌, ◌+◌, ◌-◌, ◌^◌, ◌≤◌, true, is_ok, IfOk, if◌then◌else◌, Some, None, nat_lt};
 ghost use Rattle.std.specs.Option.{option_map};
-ghost use Rattle.stats.specs.Plain.{empty_sheet, last_after, noted, sound as isSound};
+ghost use Rattle.stats.specs.Plain.{empty_sheet, last_after, noted, sound as is_sound};
 ghost use Rattle.stats.specs.Reports.{Noted, Unordered, sheet_of, total};
 ghost use Rattle.stats.specs.Spans.{spans};
 ghost use Rattle.stats.specs.Sheets.{plain_of};
@@ -73,7 +73,7 @@ impl<Last: Copy> Sheet<Last> {
 
     // The sheet of a plain record, if that is sound.
     pub fn check(plain: PlainSheet<Last>) -> Option<Sheet<Last>>
-        ensures { option_map plain_of result ≡ (if isSound plain then Some plain else None) }
+        ensures { option_map plain_of result ≡ (if is_sound plain then Some plain else None) }
     {
         if is_span(plain.high, plain.low) {
             Some(Sheet {
@@ -90,7 +90,7 @@ impl<Last: Copy> Sheet<Last> {
     // The sheet as a plain record.
     pub fn plain(&self) -> PlainSheet<Last>
         ensures value { result ≡ plain_of self.now }
-        ensures sound { isSound result ≡ true }
+        ensures sound { is_sound result ≡ true }
     {
         PlainSheet {
             high: self.high,

@@ -2,7 +2,7 @@ use Rattle.std.proofs.Common.{sym, subst}
 use Rattle.lists.specs.Listed.{lines_of, securities_of}
 use Rattle.processor.specs.Lawful.{Lawful}
 use Rattle.processor.proofs.Lawfully.{fresh_lawful}
-use Rattle.processor.proofs.day.Day.make.Goals as goal
+use Rattle.processor.proofs.practice_day.Day.make.Goals as goal
 
 pub invariant_of-result : goal.invariant_of-result
 invariant_of-result c =

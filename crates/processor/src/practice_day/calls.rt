@@ -10,8 +10,8 @@ ghost use Rattle.lists.specs.Listed.{lines_of, securities_of};
 ghost use Rattle.processor.specs.Making.{making};
 ghost use Rattle.processor.specs.Replies.{done_reply, HandedBack, hung_reply, sent_reply, ticket_reply, told_reply};
 
-use crate::day::Day;
 use crate::floor::Floor;
+use crate::practice_day::Day;
 use crate::ticket::Ticket;
 use books::code_book::CodeBook;
 use lists::market_list::MarketList;

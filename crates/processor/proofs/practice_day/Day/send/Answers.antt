@@ -5,7 +5,7 @@ use Rattle.processor.specs.Held.{day_of}
 use Rattle.processor.specs.Lawful.{Lawful}
 use Rattle.processor.proofs.Days.{of_day}
 use Rattle.processor.proofs.Lawfully.{kept, line_lawful}
-use Rattle.processor.proofs.day.Day.send.Goals as goal
+use Rattle.processor.proofs.practice_day.Day.send.Goals as goal
 
 pub send-requires : goal.send-requires
 send-requires g c = kept (day_of c.args.self.now.floor) (of_day c.args.self.now)

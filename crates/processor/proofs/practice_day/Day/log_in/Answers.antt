@@ -1,14 +1,17 @@
 use Rattle.std.proofs.Common.{sym, subst}
 use Rattle.books.specs.Standard.{standard_sets}
-use Rattle.day.specs.Call.{open_day}
+use Rattle.day.specs.Call.{log_in}
 use Rattle.processor.specs.Held.{day_of}
 use Rattle.processor.specs.Lawful.{Lawful}
 use Rattle.processor.proofs.Days.{of_day}
-use Rattle.processor.proofs.Lawfully.{operator_lawful}
-use Rattle.processor.proofs.day.Day.open.Goals as goal
+use Rattle.processor.proofs.Lawfully.{kept, line_lawful}
+use Rattle.processor.proofs.practice_day.Day.log_in.Goals as goal
+
+pub log_in-requires : goal.log_in-requires
+log_in-requires c = kept (day_of c.args.self.now.floor) (of_day c.args.self.now)
 
 pub invariant_of-self : goal.invariant_of-self
 invariant_of-self c =
     let day = c.args.self.now in
-    let l = subst Lawful (sym (c.open.ensures.leaves standard_sets)) (operator_lawful standard_sets (day_of day.floor) open_day (of_day day)) in
+    let l = subst Lawful (sym (c.log_in.ensures.leaves standard_sets)) (line_lawful standard_sets (day_of day.floor) c.args.line log_in tt (of_day day)) in
     record { filled = l.filled; frames = l.frames; ids = l.ids; centers = l.centers; sound_centers = l.sound_centers; posted = l.posted; serial = l.serial; sheets = l.sheets; sound_sheets = l.sound_sheets }

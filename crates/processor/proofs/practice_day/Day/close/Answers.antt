@@ -5,7 +5,7 @@ use Rattle.processor.specs.Held.{day_of}
 use Rattle.processor.specs.Lawful.{Lawful}
 use Rattle.processor.proofs.Days.{of_day}
 use Rattle.processor.proofs.Lawfully.{operator_lawful}
-use Rattle.processor.proofs.day.Day.close.Goals as goal
+use Rattle.processor.proofs.practice_day.Day.close.Goals as goal
 
 pub invariant_of-self : goal.invariant_of-self
 invariant_of-self c =
