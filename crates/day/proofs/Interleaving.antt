@@ -23,20 +23,20 @@ module _ {M : Type 0} {none : M} {op : M → M → M} (J : Joins none op) (f : L
       let day = fresh_day symbols originators start records in
       joined_at J f line_sale_of place (taken_in anyone sets day calls) ∙ all_shares J (given_at J f line_sale_of place) sets calls day (fresh_sound symbols originators start records)
 
-  pub same-joined : (records others-records : List MarketCenterRecord) (calls others : List Call) → ((line : ℕ) → line < length originators → calls_for line calls ≡ calls_for line others) →
+  pub same_joined : (records others_records : List MarketCenterRecord) (calls others : List Call) → ((line : ℕ) → line < length originators → calls_for line calls ≡ calls_for line others) →
       joined none op f (map line_sale_of (at_place place (taken_in anyone sets (fresh_day symbols originators start records) calls)))
-      ≡ joined none op f (map line_sale_of (at_place place (taken_in anyone sets (fresh_day symbols originators start others-records) others)))
-  same-joined records others-records calls others same =
+      ≡ joined none op f (map line_sale_of (at_place place (taken_in anyone sets (fresh_day symbols originators start others_records) others)))
+  same_joined records others_records calls others same =
       by_lines records calls
-      ∙ over_same J (length originators) _ _ (λ line h. ap (λ reports. joined none op (given_at J f line_sale_of place) reports) (fresh_alike sets symbols originators start records others-records line h calls others (same line h)).takes)
-      ∙ sym (by_lines others-records others)
+      ∙ over_same J (length originators) _ _ (λ line h. ap (λ reports. joined none op (given_at J f line_sale_of place) reports) (fresh_alike sets symbols originators start records others_records line h calls others (same line h)).takes)
+      ∙ sym (by_lines others_records others)
 
 pub interleaving_harmless : (sets : Sets) (symbols originators : List (List ℕ)) (start : ℕ) → InterleavingHarmless sets symbols originators start
-interleaving_harmless sets symbols originators start records others-records calls others same place h =
+interleaving_harmless sets symbols originators start records others_records calls others same place h =
     let one = (sheets_of_reports sets symbols originators start records calls place h).0 in
-    let other = (sheets_of_reports sets symbols originators start others-records others place h).0 in
+    let other = (sheets_of_reports sets symbols originators start others_records others place h).0 in
     record {
-      high = ap (λ s. s.high) one ∙ same-joined highs (λ r. (consolidated_entry r).spanned) sets symbols originators start place records others-records calls others same ∙ sym (ap (λ s. s.high) other);
-      low = ap (λ s. s.low) one ∙ same-joined lows (λ r. (consolidated_entry r).spanned) sets symbols originators start place records others-records calls others same ∙ sym (ap (λ s. s.low) other);
-      volume = ap (λ s. s.volume) one ∙ same-joined sums (λ r. (consolidated_entry r).adds) sets symbols originators start place records others-records calls others same ∙ sym (ap (λ s. s.volume) other);
+      high = ap (λ s. s.high) one ∙ same_joined highs (λ r. (consolidated_entry r).spanned) sets symbols originators start place records others_records calls others same ∙ sym (ap (λ s. s.high) other);
+      low = ap (λ s. s.low) one ∙ same_joined lows (λ r. (consolidated_entry r).spanned) sets symbols originators start place records others_records calls others same ∙ sym (ap (λ s. s.low) other);
+      volume = ap (λ s. s.volume) one ∙ same_joined sums (λ r. (consolidated_entry r).adds) sets symbols originators start place records others_records calls others same ∙ sym (ap (λ s. s.volume) other);
     }

@@ -83,9 +83,9 @@ pub record SameFor (sets : Sets) (line : ℕ) (day other : Day) (calls others : 
 -- other lines did, at the start and after each answer: after the first `so_far` calls of the one and the first `till` of the other.
 abbrev pub LinesApart : Sets → List (List ℕ) → List (List ℕ) → ℕ → Type 0
 LinesApart sets symbols originators start =
-    (records others-records : List MarketCenterRecord) (calls others : List Call) (so_far till line : ℕ) → line < length originators →
+    (records others_records : List MarketCenterRecord) (calls others : List Call) (so_far till line : ℕ) → line < length originators →
     calls_for line (take so_far calls) ≡ calls_for line (take till others) →
-    SameFor sets line (fresh_day symbols originators start records) (fresh_day symbols originators start others-records) (take so_far calls) (take till others)
+    SameFor sets line (fresh_day symbols originators start records) (fresh_day symbols originators start others_records) (take so_far calls) (take till others)
 
 -- VOLUMES ADD UP
 
@@ -146,10 +146,10 @@ VolumesAddUp sets symbols originators start =
 -- Where for each line its calls with the operator's are the same in both lists, all consolidated highs, lows and volumes agree.
 abbrev pub InterleavingHarmless : Sets → List (List ℕ) → List (List ℕ) → ℕ → Type 0
 InterleavingHarmless sets symbols originators start =
-    (records others-records : List MarketCenterRecord) (calls others : List Call) →
+    (records others_records : List MarketCenterRecord) (calls others : List Call) →
     ((line : ℕ) → line < length originators → calls_for line calls ≡ calls_for line others) →
     (place : ℕ) → place < length symbols →
-    SameTotals (sheet_at (run sets (fresh_day symbols originators start records) calls) place) (sheet_at (run sets (fresh_day symbols originators start others-records) others) place)
+    SameTotals (sheet_at (run sets (fresh_day symbols originators start records) calls) place) (sheet_at (run sets (fresh_day symbols originators start others_records) others) place)
 
 -- A SHEET IS WHAT ITS REPORTS SAY
 

@@ -34,7 +34,7 @@ abbrev pub hung_reply : Result (Option Reason) (Refusal × Ticket) → Reply
 hung_reply (Ok cut) = left cut
 hung_reply (Err pair) = refused pair.0
 
--- a refused hang_up hands back the same ticket
+-- a refused hang-up hands back the same ticket
 abbrev pub HandedBack : Ticket → Result (Option Reason) (Refusal × Ticket) → Type 0
 HandedBack t (Ok cut) = Unit {0}
 HandedBack t (Err pair) = pair.1 ≡ t

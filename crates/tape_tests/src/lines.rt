@@ -107,7 +107,7 @@ fn a_buffer_of_128_bytes_is_enough(rt: HostRuntime) -> Result<(), Fail> {
         Ok(n) => assert_eq!(rt; n, 40),
         Err(_) => return Err(Fail::new("128 bytes are enough")),
     }
-    assert!(rt; &buffer[0..40] == b"1,5000,QU,ABC,1,X,@F  ,0,B,10500000,200\n");
+    assert!(rt; &buffer[0..40] == b"1,5000,QU,ABC,1,X,@F  ,0,B,10500000,200\n".as_slice());
     assert!(rt; buffer[40..128] == [7; 88]);
     Ok(())
 }

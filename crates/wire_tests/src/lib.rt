@@ -1,5 +1,7 @@
 // Examples for the bytes of frames and their text. The expected values were worked out from the layouts by hand or by an
 // independent script, never by the code under test.
+#![tactic(auto)]
+
 #[cfg(test)]
 mod headers;
 #[cfg(test)]

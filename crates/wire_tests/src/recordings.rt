@@ -26,7 +26,7 @@ fn frames_stand_behind_their_length(rt: HostRuntime) {
 fn the_frame_begins_past_its_length(rt: HostRuntime) -> Result<(), Fail> {
     match front_frame(b"\x00\x02xyz") {
         Ok(frame) => {
-            assert!(rt; frame == b"xy");
+            assert!(rt; frame == b"xy".as_slice());
             Ok(())
         },
         Err(_) => Err(Fail::new("the frame is all there")),

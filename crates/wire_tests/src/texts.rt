@@ -28,10 +28,10 @@ fn symbols_are_padded_to_eleven(rt: HostRuntime) {
     assert!(rt; padded(b"ABCDEFGHIJK") == Some(*b"ABCDEFGHIJK"));
     assert!(rt; padded(b"").is_none());
     assert!(rt; padded(b"ABCDEFGHIJKL").is_none());
-    assert!(rt; unpadded(b"ABC        ") == b"ABC");
-    assert!(rt; unpadded(b"A B        ") == b"A B");
-    assert!(rt; unpadded(b"           ") == b"");
-    assert!(rt; unpadded(b"ABCDEFGHIJK") == b"ABCDEFGHIJK");
+    assert!(rt; unpadded(b"ABC        ") == b"ABC".as_slice());
+    assert!(rt; unpadded(b"A B        ") == b"A B".as_slice());
+    assert!(rt; unpadded(b"           ") == b"".as_slice());
+    assert!(rt; unpadded(b"ABCDEFGHIJK") == b"ABCDEFGHIJK".as_slice());
 }
 
 #[test]

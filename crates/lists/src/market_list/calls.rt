@@ -11,10 +11,9 @@ use text::symbol::Symbol;
 
 // What stands at an index of the places that are in use.
 fn entry<const N: usize>(room: &[[u8; N]], count: usize, index: usize) -> Option<[u8; N]>
-    requires counted { length (take count room.now) ≡ count }
-    requires commaless { none_has 44 (take count room.now) ≡ true }
+    requires { length (take count room.now) ≡ count }
     ensures value { result ≡ at_index (take count room.now) index }
-    ensures plain { Commaless result }
+    ensures plain { none_has 44 (take count room.now) ≡ true → Commaless result }
 {
     if index < count {
         Some(room[index])

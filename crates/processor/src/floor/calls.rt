@@ -1,7 +1,7 @@
 // The calls of a day that take no frame.
 ghost use Rattle.std.specs.Prelude.{◌≡◌, ◌<◌, ◌≤◌, length, None};
 ghost use Rattle.books.specs.Sets.{Sets};
-ghost use Rattle.day.specs.Call.{close_day, hang_up as hanging-up, inquire as inquiring, log_in as logging-in, of_line, of_operator, open_day, post as posting};
+ghost use Rattle.day.specs.Call.{close_day, hang_up as hanging_up, inquire as inquiring, log_in as logging_in, of_line, of_operator, open_day, post as posting};
 ghost use Rattle.day.specs.LineCalls.{inquired, inquiry_of, inquiry_room, place_or0};
 ghost use Rattle.day.specs.Operator.{operated};
 ghost use Rattle.day.specs.State.{line_count, line_of, security_count};
@@ -25,8 +25,8 @@ use verdicts::answer::Reason;
 impl<'a> Floor<'a> {
     pub(crate) fn log_in(&mut self, line: usize) -> Result<(), Refusal>
         requires { Kept (day_of self.old) }
-        ensures said { (sets : Sets) → logged_reply line result ≡ (step sets (day_of self.old) (of_line line logging-in)).said }
-        ensures leaves { (sets : Sets) → day_of self.new ≡ (step sets (day_of self.old) (of_line line logging-in)).day }
+        ensures said { (sets : Sets) → logged_reply line result ≡ (step sets (day_of self.old) (of_line line logging_in)).said }
+        ensures leaves { (sets : Sets) → day_of self.new ≡ (step sets (day_of self.old) (of_line line logging_in)).day }
     {
         match self.log_in_refusal(line) {
             Some(refusal) => Err(refusal),
@@ -40,8 +40,8 @@ impl<'a> Floor<'a> {
     // Answers why the line was cut, if it was.
     pub(crate) fn hang_up(&mut self, line: usize) -> Result<Option<Reason>, Refusal>
         requires { Kept (day_of self.old) }
-        ensures said { (sets : Sets) → left_reply result ≡ (step sets (day_of self.old) (of_line line hanging-up)).said }
-        ensures leaves { (sets : Sets) → day_of self.new ≡ (step sets (day_of self.old) (of_line line hanging-up)).day }
+        ensures said { (sets : Sets) → left_reply result ≡ (step sets (day_of self.old) (of_line line hanging_up)).said }
+        ensures leaves { (sets : Sets) → day_of self.new ≡ (step sets (day_of self.old) (of_line line hanging_up)).day }
     {
         match self.hang_up_refusal(line) {
             Some(refusal) => Err(refusal),

@@ -2,7 +2,7 @@
 ghost use Rattle.std.specs.Prelude.{◌≡◌, length, Ok};
 ghost use Rattle.books.specs.Sets.{Sets};
 ghost use Rattle.day.specs.Asks.{center_sheet, consolidated_sheet};
-ghost use Rattle.day.specs.Call.{close_day, hang_up as hanging-up, inquire as inquiring, log_in as logging-in, of_line, of_operator, open_day, post as posting, send as sending};
+ghost use Rattle.day.specs.Call.{close_day, hang_up as hanging_up, inquire as inquiring, log_in as logging_in, of_line, of_operator, open_day, post as posting, send as sending};
 ghost use Rattle.day.specs.State.{fresh_day};
 ghost use Rattle.day.specs.Step.{buffer_after, step};
 ghost use Rattle.processor.specs.Held.{day_of};
@@ -40,8 +40,8 @@ impl<'a> Day<'a> {
     }
 
     pub(crate) fn log_in(&mut self, line: usize) -> Result<Ticket, Refusal>
-        ensures said { (sets : Sets) → ticket_reply result ≡ (step sets (day_of self.old.floor) (of_line line logging-in)).said }
-        ensures leaves { (sets : Sets) → day_of self.new.floor ≡ (step sets (day_of self.old.floor) (of_line line logging-in)).day }
+        ensures said { (sets : Sets) → ticket_reply result ≡ (step sets (day_of self.old.floor) (of_line line logging_in)).said }
+        ensures leaves { (sets : Sets) → day_of self.new.floor ≡ (step sets (day_of self.old.floor) (of_line line logging_in)).day }
     {
         match self.floor.log_in(line) {
             Ok(()) => Ok(Ticket { line, spent: false }),
@@ -101,8 +101,8 @@ impl<'a> Day<'a> {
 
     // Takes the ticket, and answers why the line was cut, if it was; refused, it hands the ticket back.
     pub(crate) fn hang_up(&mut self, ticket: Ticket) -> Result<Option<Reason>, (Refusal, Ticket)>
-        ensures said { (sets : Sets) → hung_reply result ≡ (step sets (day_of self.old.floor) (of_line ticket.line hanging-up)).said }
-        ensures leaves { (sets : Sets) → day_of self.new.floor ≡ (step sets (day_of self.old.floor) (of_line ticket.line hanging-up)).day }
+        ensures said { (sets : Sets) → hung_reply result ≡ (step sets (day_of self.old.floor) (of_line ticket.line hanging_up)).said }
+        ensures leaves { (sets : Sets) → day_of self.new.floor ≡ (step sets (day_of self.old.floor) (of_line ticket.line hanging_up)).day }
         ensures back { HandedBack ticket result }
     {
         match self.floor.hang_up(ticket.line) {
