@@ -1,11 +1,21 @@
-// What stands in a file, or a line on standard error that names the program, the file and what went wrong.
+// What was read of a file, or a line on standard error that names the program, the file and what went wrong.
+ghost use Rattle.std.specs.Prelude.{◌≡◌, IsErr, MatchResult};
+
 use anyhow::anyhow;
 use show::cut::part_cut;
-use std::fs;
+use std::io;
 use wire::recording::Cut;
 
-pub fn read(rt: &HostRuntime, program: &str, path: &str) -> anyhow::Result<Vec<u8>> {
-    match fs::read(rt, path) {
+// Hands on what was read of a file; where it could not be read, says so and fails.
+pub fn contents(
+    rt: &HostRuntime,
+    program: &str,
+    path: &str,
+    read: io::Result<Vec<u8>>,
+) -> anyhow::Result<Vec<u8>>
+    ensures { MatchResult read (λ bytes. result ≡ Ok bytes) (λ _. IsErr result) }
+{
+    match read {
         Ok(bytes) => Ok(bytes),
         Err(e) => {
             eprintln!(rt; "{program}: {path}: {e}")?;
@@ -15,7 +25,9 @@ pub fn read(rt: &HostRuntime, program: &str, path: &str) -> anyhow::Result<Vec<u
 }
 
 // Says at which byte a recording is cut, and fails.
-pub fn cut_short(rt: &HostRuntime, program: &str, cut: Cut, at: usize) -> anyhow::Result<()> {
+pub fn cut_short(rt: &HostRuntime, program: &str, cut: Cut, at: usize) -> anyhow::Result<()>
+    ensures { IsErr result }
+{
     let part = part_cut(cut);
     eprintln!(rt; "{program}: the recording ends inside {part} at byte {at}")?;
     Err(anyhow!("cut"))

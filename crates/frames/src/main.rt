@@ -7,10 +7,10 @@ mod report_text;
 
 use anyhow::anyhow;
 use board::Board;
-use files::input::{cut_short, read};
+use files::input::{contents, cut_short};
 use recording::RECORDING;
 use report_text::print_report;
-use std::env;
+use std::{env, fs};
 use wire::header::HeaderRow;
 use wire::recording::front_frame;
 use wire::trade_report::TradeReport;
@@ -79,6 +79,7 @@ fn main(rt: HostRuntime) -> anyhow::Result<()> {
         eprintln!(rt; "usage: frames [FILE]")?;
         return Err(anyhow!("usage"));
     }
-    let recording = read(&rt, "frames", path.as_str())?;
+    let read = fs::read(&rt, path.as_str());
+    let recording = contents(&rt, "frames", path.as_str(), read)?;
     print_recording(&rt, recording.as_slice())
 }

@@ -15,13 +15,13 @@ use books::standard_book::StandardBook;
 use codes::book_row::BookRow;
 use codes::book_sheet::read_book;
 use fault_text::print_fault;
-use files::input::{cut_short, read};
+use files::input::{contents, cut_short};
 use lists::list_row::ListRow;
 use lists::list_sheet::read_list;
 use lists::market_list::MarketList;
 use open_day::answer_to;
 use start_time::start_time;
-use std::env;
+use std::{env, fs};
 use wire::recording::front_frame;
 
 fn print_answers<B: CodeBook>(
@@ -91,6 +91,10 @@ fn judge_samples(rt: &HostRuntime) -> anyhow::Result<()> {
 }
 
 // The book is a path, or the word `standard`.
+fn read(rt: &HostRuntime, path: &str) -> anyhow::Result<Vec<u8>> {
+    contents(rt, "judge", path, fs::read(rt, path))
+}
+
 fn judge_files(
     rt: &HostRuntime,
     list: &str,
@@ -98,14 +102,14 @@ fn judge_files(
     start: u64,
     file: &str,
 ) -> anyhow::Result<()> {
-    let list = read(rt, "judge", list)?;
+    let list = read(rt, list)?;
     let market = market_of(rt, list.as_slice())?;
     if book == "standard" {
-        let recording = read(rt, "judge", file)?;
+        let recording = read(rt, file)?;
         return print_answers(rt, &market, start, &StandardBook, recording.as_slice());
     }
-    let book = read(rt, "judge", book)?;
-    let recording = read(rt, "judge", file)?;
+    let book = read(rt, book)?;
+    let recording = read(rt, file)?;
     judge_by_sheet(rt, &market, start, book.as_slice(), recording.as_slice())
 }
 
