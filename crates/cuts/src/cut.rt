@@ -1,71 +1,77 @@
 // A text cut at a separator, as a sheet is cut into lines and a line into fields.
-ghost use Rattle.std.specs.Prelude.{◌≡◌, ◌≤◌, length, take, nat_lt};
+ghost use Rattle.std.specs.Prelude.{◌≡◌, ◌==◌, length, count_by, position};
 ghost use Rattle.std.specs.Str.{bytes_eq};
-ghost use Rattle.cuts.specs.Cut.{field_count, field_of, first_part, has, only_byte, past};
+ghost use Rattle.cuts.specs.Cut.{field_count, field_of, first_part, has, only_byte, part_at, parts, past};
 
-// How many bytes stand before the first separator.
-fn reach(text: &[u8], separator: u8) -> usize
-    ensures value { result ≡ length (first_part separator text.now) }
-    ensures within { result ≤ length text.now }
-    ensures part { first_part separator text.now ≡ take result text.now }
-    ensures ended { has separator text.now ≡ nat_lt result (length text.now) }
+// The index of the first separator, if there is one.
+fn place(text: &[u8], separator: u8) -> Option<usize>
+    ensures { result ≡ position (λ byte. byte == separator) text.now }
 {
-    for (i, byte) in text.iter().enumerate() {
-        if *byte == separator {
-            return i;
-        }
-    }
-    text.len()
+    text.iter().position(|byte| *byte == separator)
 }
 
 pub fn contains(text: &[u8], separator: u8) -> bool
     ensures { result ≡ has separator text.now }
 {
-    reach(text, separator) < text.len()
+    text.contains(&separator)
 }
 
 // The bytes before the first separator; all where there is none.
 pub fn first_part(text: &[u8], separator: u8) -> &[u8]
     ensures { result.now ≡ first_part separator text.now }
 {
-    let n = reach(text, separator);
-    &text[0..n]
+    match place(text, separator) {
+        Some(n) => &text[..n],
+        None => text,
+    }
 }
 
 // The bytes past the first separator; none where there is none.
 pub fn after_first(text: &[u8], separator: u8) -> &[u8]
     ensures { result.now ≡ past separator text.now }
 {
-    let n = reach(text, separator);
-    if n < text.len() {
-        &text[n + 1..]
-    } else {
-        &text[n..]
+    match place(text, separator) {
+        Some(n) => &text[n + 1..],
+        None => b"",
     }
+}
+
+fn separator_count(text: &[u8], separator: u8) -> usize
+    ensures { result ≡ count_by (λ byte. byte == separator) text.now }
+{
+    text.iter().filter(|byte| **byte == separator).count()
+}
+
+// How many parts a text has: one more than its separators.
+pub fn part_count(text: &[u8], separator: u8) -> usize
+    ensures { result ≡ length (parts separator text.now) }
+{
+    separator_count(text, separator) + 1
+}
+
+// A part of a text, counted from 0; empty where the text has fewer.
+pub fn part(text: &[u8], separator: u8, index: usize) -> &[u8]
+    ensures { result.now ≡ part_at separator index text.now }
+{
+    let mut rest = text;
+    for _ in 0..index {
+        rest = after_first(rest, separator);
+    }
+    first_part(rest, separator)
 }
 
 // How many fields a line has: one more than its commas.
 pub fn field_count(line: &[u8]) -> usize
     ensures { result ≡ field_count line.now }
 {
-    let mut commas = 0;
-    for byte in line {
-        if *byte == b',' {
-            commas += 1;
-        }
-    }
-    commas + 1
+    part_count(line, b',')
 }
 
 // A field of a line, counted from 1; empty where the line has fewer.
 pub fn field(line: &[u8], number: u8) -> &[u8]
     ensures { result.now ≡ field_of number line.now }
 {
-    let mut rest = line;
-    for _ in 1..number {
-        rest = after_first(rest, b',');
-    }
-    first_part(rest, b',')
+    part(line, b',', usize::from(number).saturating_sub(1))
 }
 
 // The byte of a field that is one byte long.

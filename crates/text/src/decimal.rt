@@ -1,27 +1,20 @@
 // Decimal numbers without leading zeros, put into a caller's buffer.
-ghost use Rattle.std.specs.Prelude.{◌≡◌, ◌+◌, ◌≤◌, length, decimal};
-ghost use Rattle.text.specs.Buffer.{overwritten, past_text, with_text};
+ghost use Rattle.std.specs.Prelude.{◌≡◌, decimal};
+ghost use Rattle.text.specs.Buffer.{past_text, with_text};
 
-// How many digits a number has.
-fn digit_count(n: u64) -> usize
-    ensures { result ≡ length (decimal n) }
-{
-    if n < 10 { 1 } else { digit_count(n / 10) + 1 }
-}
+use itoa::Buffer;
 
-// The digits from an index on, where there is room for them; the answer is the index past them.
-fn put_digits(buffer: &mut [u8], at: usize, n: u64) -> usize
-    requires { at + length (decimal n) ≤ length buffer.old }
-    ensures past { result ≡ at + length (decimal n) }
-    ensures after { buffer.new ≡ overwritten buffer.old at (decimal n) }
+// Puts a text into a buffer from an index on, where there is room for it.
+fn put_text(buffer: &mut [u8], at: usize, text: &[u8]) -> Option<usize>
+    ensures past { result ≡ past_text buffer.old at text.now }
+    ensures after { buffer.new ≡ with_text buffer.old at text.now }
 {
-    if n < 10 {
-        buffer[at] = b'0' + n as u8;
-        return at + 1;
+    if at > buffer.len() || buffer.len() - at < text.len() {
+        return None;
     }
-    let last = put_digits(buffer, at, n / 10);
-    buffer[last] = b'0' + (n % 10) as u8;
-    last + 1
+    let past = at + text.len();
+    buffer[at..past].copy_from_slice(text);
+    Some(past)
 }
 
 // Puts a number into a buffer from an index on, and answers the index past it. Where the buffer has no room for
@@ -30,8 +23,6 @@ pub fn put_decimal(buffer: &mut [u8], at: usize, n: u64) -> Option<usize>
     ensures past { result ≡ past_text buffer.old at (decimal n) }
     ensures after { buffer.new ≡ with_text buffer.old at (decimal n) }
 {
-    if at > buffer.len() || buffer.len() - at < digit_count(n) {
-        return None;
-    }
-    Some(put_digits(buffer, at, n))
+    let mut digits = Buffer::new();
+    put_text(buffer, at, digits.format(n).as_bytes())
 }

@@ -1,5 +1,5 @@
 // The symbol of a security, as frames carry it.
-ghost use Rattle.std.specs.Prelude.{◌≡◌, ◌≤◌, length, take};
+ghost use Rattle.std.specs.Prelude.{◌≡◌};
 ghost use Rattle.text.specs.Symbol.{precedes, symbol_of, text_of};
 
 // Eleven bytes: 1 to 11 bytes of text, padded on the right with spaces.
@@ -14,28 +14,22 @@ pub fn padded(text: &[u8]) -> Option<Symbol>
         return None;
     }
     let mut symbol = [b' '; 11];
-    symbol[0..n].copy_from_slice(text);
+    symbol[..n].copy_from_slice(text);
     Some(symbol)
-}
-
-// How many bytes a symbol has without its padding.
-fn text_length(symbol: &[u8]) -> usize
-    ensures within { result ≤ length symbol.now }
-    ensures front { take result symbol.now ≡ text_of symbol.now }
-{
-    let mut n = symbol.len();
-    while n > 0 && symbol[n - 1] == b' ' {
-        n -= 1;
-    }
-    n
 }
 
 // A symbol without its padding.
 pub fn unpadded(symbol: &[u8]) -> &[u8]
     ensures { result.now ≡ text_of symbol.now }
 {
-    let n = text_length(symbol);
-    &symbol[0..n]
+    let mut text = symbol;
+    while let Some((last, front)) = text.split_last() {
+        if *last != b' ' {
+            return text;
+        }
+        text = front;
+    }
+    text
 }
 
 // Whether one symbol stands before another, byte by byte.
