@@ -49,7 +49,7 @@ fn a_buffer_of_32_bytes_stays_as_it_was(rt: HostRuntime) -> Result<(), Fail> {
     let mut buffer = [7; 32];
     match HALTED.write(&mut buffer) {
         Ok(()) => return Err(Fail::new("32 bytes are too few")),
-        Err(refusal) => assert_eq!(rt; refusal.number(), 6),
+        Err(refusal) => assert_eq!(rt; u16::from(refusal), 6),
     }
     assert!(rt; buffer == [7; 32]);
     Ok(())

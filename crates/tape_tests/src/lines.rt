@@ -117,7 +117,7 @@ fn a_buffer_of_127_bytes_stays_as_it_was(rt: HostRuntime) -> Result<(), Fail> {
     let mut buffer = [7; 127];
     match write_tape_line(&mut buffer, 1, 5000, &PLAIN) {
         Ok(_) => return Err(Fail::new("127 bytes are too few")),
-        Err(refusal) => assert_eq!(rt; refusal.number(), 6),
+        Err(refusal) => assert_eq!(rt; u16::from(refusal), 6),
     }
     assert!(rt; buffer == [7; 127]);
     Ok(())

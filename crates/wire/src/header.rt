@@ -3,18 +3,19 @@ ghost use Rattle.std.specs.Prelude.{◌≡◌};
 ghost use Rattle.wire.specs.Header.{asked_of, first_failing, header_number, unless};
 
 // The rows of the header that can be asked of a frame alone.
-#[derive(Clone, Copy)]
+#[derive(Clone, Copy, PartialEq, Eq, Debug)]
 pub enum HeaderRow {
     Version,
     Kind,
     Length,
 }
 
-impl HeaderRow {
-    pub fn number(&self) -> u16
-        ensures { result ≡ header_number self.now }
-    {
-        match self {
+// A row's number in the table of header rows.
+impl From<HeaderRow> for u16 {
+    ghost from_gives = { λ row number. number ≡ header_number row };
+
+    fn from(row: HeaderRow) -> u16 {
+        match row {
             HeaderRow::Version => 101,
             HeaderRow::Kind => 102,
             HeaderRow::Length => 103,

@@ -3,7 +3,7 @@ ghost use Rattle.std.specs.Prelude.{◌≡◌, length};
 ghost use Rattle.wire.specs.MassAction.{action_fields, action_in};
 
 use crate::header::{HeaderRow, check_header};
-use crate::number::value_u64;
+use crate::number::Number;
 use crate::part::array;
 use text::symbol::Symbol;
 
@@ -12,7 +12,7 @@ const LETTERS: [u8; 2] = *b"AU";
 const LENGTH: usize = 60;
 
 // Every field of the frame after the letters of its kind.
-#[derive(Clone, Copy)]
+#[derive(Clone, Copy, PartialEq, Eq, Debug)]
 pub struct MassAction {
     // the participant that the action comes from
     pub originator: [u8; 2],
@@ -36,13 +36,13 @@ fn fields(frame: &[u8]) -> MassAction
 {
     MassAction {
         originator: array(&frame[3..5]),
-        timestamp1: value_u64(&frame[5..13]),
-        feed_sequence: value_u64(&frame[13..21]),
-        participant_token: value_u64(&frame[21..29]),
+        timestamp1: u64::of_part(&frame[5..13]),
+        feed_sequence: u64::of_part(&frame[13..21]),
+        participant_token: u64::of_part(&frame[21..29]),
         first: array(&frame[29..40]),
         last: array(&frame[40..51]),
         action: frame[51],
-        action_time: value_u64(&frame[52..60]),
+        action_time: u64::of_part(&frame[52..60]),
     }
 }
 

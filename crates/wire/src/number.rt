@@ -1,119 +1,103 @@
-// Unsigned numbers of 2, 4 and 8 bytes in a part of a frame, the highest byte first.
-ghost use Rattle.std.specs.Prelude.{◌≡◌, ◌^◌, ◌<◌, length, if◌then◌else◌, ◌==◌};
+// Unsigned numbers in a part of a frame, the highest byte first.
+ghost use Rattle.std.specs.Prelude.{◌≡◌, ℕ, ◌^◌, ◌<◌, length, if◌then◌else◌, ◌==◌, is_ok};
+ghost use Rattle.std.specs.Option.{option_map};
 ghost use Rattle.wire.specs.Number.{bytes_of, number_in, value_of};
 
-pub(crate) fn value_u16(part: &[u8]) -> u16
-    requires { length part.now ≡ 2 }
-    ensures { result ≡ value_of part.now }
-{
-    u16::from_be_bytes([part[0], part[1]])
+use crate::part::array;
+
+// A number that some field of a frame holds. Its methods ask for a part that is as wide as the number; `read` and `write`
+// refuse any other.
+pub trait Number: Copy {
+    const WIDTH: usize;
+
+    ghost WIDTH: { ℕ };
+
+    ghost value: { Self → ℕ };
+
+    fn of_part(part: &[u8]) -> Self
+        requires { length part.now ≡ WIDTH }
+        ensures { value result ≡ value_of part.now };
+
+    fn put(self, part: &mut [u8])
+        requires { length part.old ≡ WIDTH }
+        ensures after { part.new ≡ bytes_of WIDTH (value self) }
+        ensures fits { value self < 256 ^ WIDTH };
 }
 
-pub(crate) fn place_u16(part: &mut [u8], n: u16)
-    requires { length part.old ≡ 2 }
-    ensures after { part.new ≡ bytes_of 2 n }
-    ensures fits { n < 256 ^ 2 }
-{
-    part.copy_from_slice(&n.to_be_bytes());
+#[tactic(auto, using(crate::proofs::Numbers::value_read), unfolding(crate::specs::Number::bytes_of, crate::specs::Number::value_after, crate::specs::Number::value_of))]
+impl Number for u16 {
+    const WIDTH: usize = 2;
+
+    ghost WIDTH = { 2 };
+
+    ghost value = { λ n. n };
+
+    fn of_part(part: &[u8]) -> u16 {
+        u16::from_be_bytes(array(part))
+    }
+
+    fn put(self, part: &mut [u8]) {
+        part.copy_from_slice(&u16::to_be_bytes(self));
+    }
 }
 
-// The number in a part; none where the part is not 2 bytes wide.
-pub fn read_u16(part: &[u8]) -> Option<u16>
-    ensures { result ≡ number_in 2 part.now }
+#[tactic(auto, using(crate::proofs::Numbers::value_read), unfolding(crate::specs::Number::bytes_of, crate::specs::Number::value_after, crate::specs::Number::value_of))]
+impl Number for u32 {
+    const WIDTH: usize = 4;
+
+    ghost WIDTH = { 4 };
+
+    ghost value = { λ n. n };
+
+    fn of_part(part: &[u8]) -> u32 {
+        u32::from_be_bytes(array(part))
+    }
+
+    fn put(self, part: &mut [u8]) {
+        part.copy_from_slice(&u32::to_be_bytes(self));
+    }
+}
+
+#[tactic(auto, using(crate::proofs::Numbers::value_read), unfolding(crate::specs::Number::bytes_of, crate::specs::Number::value_after, crate::specs::Number::value_of))]
+impl Number for u64 {
+    const WIDTH: usize = 8;
+
+    ghost WIDTH = { 8 };
+
+    ghost value = { λ n. n };
+
+    fn of_part(part: &[u8]) -> u64 {
+        u64::from_be_bytes(array(part))
+    }
+
+    fn put(self, part: &mut [u8]) {
+        part.copy_from_slice(&u64::to_be_bytes(self));
+    }
+}
+
+// A part is not as wide as the number.
+#[derive(Clone, Copy, PartialEq, Eq, Debug)]
+pub struct WrongWidth;
+
+// The number in a part; none where the part is not as wide as the number.
+pub fn read<N: Number>(part: &[u8]) -> Option<N>
+    ensures { option_map N.value result ≡ number_in N.WIDTH part.now }
 {
-    if part.len() == 2 {
-        Some(value_u16(part))
+    if part.len() == N::WIDTH {
+        Some(N::of_part(part))
     } else {
         None
     }
 }
 
-// False, and nothing is written, where the part is not 2 bytes wide.
-pub fn write_u16(part: &mut [u8], n: u16) -> bool
-    ensures answer { result ≡ (length part.old == 2) }
-    ensures after { part.new ≡ (if result then bytes_of 2 n else part.old) }
+// Writes a number over a part, or nothing where the part is not as wide as the number.
+pub fn write<N: Number>(part: &mut [u8], n: N) -> Result<(), WrongWidth>
+    ensures answer { is_ok result ≡ (length part.old == N.WIDTH) }
+    ensures after { part.new ≡ (if is_ok result then bytes_of N.WIDTH (N.value n) else part.old) }
 {
-    if part.len() != 2 {
-        return false;
+    if part.len() != N::WIDTH {
+        return Err(WrongWidth);
     }
-    place_u16(part, n);
-    true
-}
-
-pub(crate) fn value_u32(part: &[u8]) -> u32
-    requires { length part.now ≡ 4 }
-    ensures { result ≡ value_of part.now }
-{
-    u32::from_be_bytes([part[0], part[1], part[2], part[3]])
-}
-
-pub(crate) fn place_u32(part: &mut [u8], n: u32)
-    requires { length part.old ≡ 4 }
-    ensures after { part.new ≡ bytes_of 4 n }
-    ensures fits { n < 256 ^ 4 }
-{
-    part.copy_from_slice(&n.to_be_bytes());
-}
-
-// The number in a part; none where the part is not 4 bytes wide.
-pub fn read_u32(part: &[u8]) -> Option<u32>
-    ensures { result ≡ number_in 4 part.now }
-{
-    if part.len() == 4 {
-        Some(value_u32(part))
-    } else {
-        None
-    }
-}
-
-// False, and nothing is written, where the part is not 4 bytes wide.
-pub fn write_u32(part: &mut [u8], n: u32) -> bool
-    ensures answer { result ≡ (length part.old == 4) }
-    ensures after { part.new ≡ (if result then bytes_of 4 n else part.old) }
-{
-    if part.len() != 4 {
-        return false;
-    }
-    place_u32(part, n);
-    true
-}
-
-pub(crate) fn value_u64(part: &[u8]) -> u64
-    requires { length part.now ≡ 8 }
-    ensures { result ≡ value_of part.now }
-{
-    u64::from_be_bytes([
-        part[0], part[1], part[2], part[3], part[4], part[5], part[6], part[7],
-    ])
-}
-
-pub(crate) fn place_u64(part: &mut [u8], n: u64)
-    requires { length part.old ≡ 8 }
-    ensures after { part.new ≡ bytes_of 8 n }
-    ensures fits { n < 256 ^ 8 }
-{
-    part.copy_from_slice(&n.to_be_bytes());
-}
-
-// The number in a part; none where the part is not 8 bytes wide.
-pub fn read_u64(part: &[u8]) -> Option<u64>
-    ensures { result ≡ number_in 8 part.now }
-{
-    if part.len() == 8 {
-        Some(value_u64(part))
-    } else {
-        None
-    }
-}
-
-// False, and nothing is written, where the part is not 8 bytes wide.
-pub fn write_u64(part: &mut [u8], n: u64) -> bool
-    ensures answer { result ≡ (length part.old == 8) }
-    ensures after { part.new ≡ (if result then bytes_of 8 n else part.old) }
-{
-    if part.len() != 8 {
-        return false;
-    }
-    place_u64(part, n);
-    true
+    n.put(part);
+    Ok(())
 }

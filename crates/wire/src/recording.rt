@@ -3,10 +3,10 @@ ghost use Rattle.std.specs.Prelude.{◌≡◌, ◌+◌, ◌≤◌, length, IfOk}
 ghost use Rattle.text.specs.Lent.{lent};
 ghost use Rattle.wire.specs.Recording.{front_frame};
 
-use crate::number::value_u16;
+use crate::number::Number;
 
 // Where a recording stops short.
-#[derive(Clone, Copy)]
+#[derive(Clone, Copy, PartialEq, Eq, Debug)]
 pub enum Cut {
     InLength,
     InFrame,
@@ -20,7 +20,7 @@ pub fn front_frame(rest: &[u8]) -> Result<&[u8], Cut>
     if rest.len() < 2 {
         return Err(Cut::InLength);
     }
-    let end = 2 + value_u16(&rest[0..2]) as usize;
+    let end = 2 + usize::from(u16::of_part(&rest[0..2]));
     if rest.len() < end {
         return Err(Cut::InFrame);
     }

@@ -4,7 +4,7 @@ ghost use Rattle.text.specs.Buffer.{overwritten};
 ghost use Rattle.wire.specs.TradeReport.{fields_of, frame_of, header_bytes, refusal_number, report_in, trade_bytes, TypedHeader, TypedTrade, writing, written};
 
 use crate::header::{HeaderRow, check_header};
-use crate::number::{place_u16, place_u32, place_u64, value_u16, value_u32, value_u64};
+use crate::number::Number;
 use crate::part::array;
 use text::symbol::Symbol;
 
@@ -13,7 +13,7 @@ const LETTERS: [u8; 2] = *b"TE";
 const LENGTH: usize = 72;
 
 // Every field of the frame after the letters of its kind.
-#[derive(Clone, Copy)]
+#[derive(Clone, Copy, PartialEq, Eq, Debug)]
 pub struct TradeReport {
     // the participant that the report comes from
     pub originator: [u8; 2],
@@ -40,16 +40,17 @@ pub struct TradeReport {
     pub volume: u32,
 }
 
-#[derive(Clone, Copy)]
+#[derive(Clone, Copy, PartialEq, Eq, Debug)]
 pub enum WriteRefusal {
     ShortBuffer,
 }
 
-impl WriteRefusal {
-    pub fn number(&self) -> u16
-        ensures { result ≡ refusal_number self.now }
-    {
-        match self {
+// A refusal's number among those of the calls.
+impl From<WriteRefusal> for u16 {
+    ghost from_gives = { λ refusal number. number ≡ refusal_number refusal };
+
+    fn from(refusal: WriteRefusal) -> u16 {
+        match refusal {
             WriteRefusal::ShortBuffer => 6,
         }
     }
@@ -61,18 +62,18 @@ fn fields(frame: &[u8]) -> TradeReport
 {
     TradeReport {
         originator: array(&frame[3..5]),
-        timestamp1: value_u64(&frame[5..13]),
-        feed_sequence: value_u64(&frame[13..21]),
-        participant_token: value_u64(&frame[21..29]),
-        timestamp2: value_u64(&frame[29..37]),
+        timestamp1: u64::of_part(&frame[5..13]),
+        feed_sequence: u64::of_part(&frame[13..21]),
+        participant_token: u64::of_part(&frame[21..29]),
+        timestamp2: u64::of_part(&frame[29..37]),
         symbol: array(&frame[37..48]),
-        trade_id: value_u32(&frame[48..52]),
+        trade_id: u32::of_part(&frame[48..52]),
         exempt_flag: frame[52],
         condition: array(&frame[53..57]),
-        seller_days: value_u16(&frame[57..59]),
+        seller_days: u16::of_part(&frame[57..59]),
         side: frame[59],
-        price: value_u64(&frame[60..68]),
-        volume: value_u32(&frame[68..72]),
+        price: u64::of_part(&frame[60..68]),
+        volume: u32::of_part(&frame[68..72]),
     }
 }
 
@@ -84,9 +85,9 @@ fn place_header(report: &TradeReport, buffer: &mut [u8])
 {
     buffer[0..3].copy_from_slice(b"1TE");
     buffer[3..5].copy_from_slice(&report.originator);
-    place_u64(&mut buffer[5..13], report.timestamp1);
-    place_u64(&mut buffer[13..21], report.feed_sequence);
-    place_u64(&mut buffer[21..29], report.participant_token);
+    report.timestamp1.put(&mut buffer[5..13]);
+    report.feed_sequence.put(&mut buffer[13..21]);
+    report.participant_token.put(&mut buffer[21..29]);
 }
 
 // The fields of the trade.
@@ -95,15 +96,15 @@ fn place_trade(report: &TradeReport, buffer: &mut [u8])
     ensures after { buffer.new ≡ overwritten buffer.old 29 (trade_bytes report.now) }
     ensures typed { TypedTrade report.now }
 {
-    place_u64(&mut buffer[29..37], report.timestamp2);
+    report.timestamp2.put(&mut buffer[29..37]);
     buffer[37..48].copy_from_slice(&report.symbol);
-    place_u32(&mut buffer[48..52], report.trade_id);
+    report.trade_id.put(&mut buffer[48..52]);
     buffer[52] = report.exempt_flag;
     buffer[53..57].copy_from_slice(&report.condition);
-    place_u16(&mut buffer[57..59], report.seller_days);
+    report.seller_days.put(&mut buffer[57..59]);
     buffer[59] = report.side;
-    place_u64(&mut buffer[60..68], report.price);
-    place_u32(&mut buffer[68..72], report.volume);
+    report.price.put(&mut buffer[60..68]);
+    report.volume.put(&mut buffer[68..72]);
 }
 
 impl TradeReport {

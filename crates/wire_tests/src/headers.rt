@@ -5,7 +5,7 @@ use wire::trade_report::TradeReport;
 fn row_of(frame: &[u8]) -> u16 {
     match TradeReport::read(frame) {
         Ok(_) => 0,
-        Err(row) => row.number(),
+        Err(row) => u16::from(row),
     }
 }
 

@@ -1,27 +1,27 @@
 // Big-endian numbers in parts.
-use wire::number::{read_u16, read_u32, read_u64, write_u16, write_u32, write_u64};
+use wire::number::{WrongWidth, read, write};
 
 #[test]
 fn the_highest_byte_comes_first(rt: HostRuntime) {
-    assert_eq!(rt; read_u16(&[1, 2]), Some(258));
-    assert_eq!(rt; read_u32(&[1, 2, 3, 4]), Some(16909060));
+    assert_eq!(rt; read::<u16>(&[1, 2]), Some(258));
+    assert_eq!(rt; read::<u32>(&[1, 2, 3, 4]), Some(16909060));
     assert_eq!(rt;
-        read_u64(&[1, 2, 3, 4, 5, 6, 7, 8]),
+        read::<u64>(&[1, 2, 3, 4, 5, 6, 7, 8]),
         Some(72623859790382856)
     );
-    assert_eq!(rt; read_u64(&[255; 8]), Some(18446744073709551615));
+    assert_eq!(rt; read::<u64>(&[255; 8]), Some(18446744073709551615));
 }
 
 #[test]
 fn other_widths_are_refused(rt: HostRuntime) {
-    assert_eq!(rt; read_u16(&[1]), None);
-    assert_eq!(rt; read_u16(&[1, 2, 3]), None);
-    assert_eq!(rt; read_u32(&[1, 2, 3]), None);
-    assert_eq!(rt; read_u64(&[]), None);
+    assert_eq!(rt; read::<u16>(&[1]), None);
+    assert_eq!(rt; read::<u16>(&[1, 2, 3]), None);
+    assert_eq!(rt; read::<u32>(&[1, 2, 3]), None);
+    assert_eq!(rt; read::<u64>(&[]), None);
     let mut part = [7; 3];
-    assert!(rt; !write_u16(&mut part, 1));
-    assert!(rt; !write_u32(&mut part, 1));
-    assert!(rt; !write_u64(&mut part, 1));
+    assert_eq!(rt; write(&mut part, 1u16), Err(WrongWidth));
+    assert_eq!(rt; write(&mut part, 1u32), Err(WrongWidth));
+    assert_eq!(rt; write(&mut part, 1u64), Err(WrongWidth));
     assert!(rt; part == [7; 3]);
 }
 
@@ -30,7 +30,7 @@ fn numbers_are_written_whole(rt: HostRuntime) {
     let mut two = [7; 2];
     let mut four = [7; 4];
     let mut eight = [7; 8];
-    assert!(rt; write_u16(&mut two, 258) && two == [1, 2]);
-    assert!(rt; write_u32(&mut four, 16909060) && four == [1, 2, 3, 4]);
-    assert!(rt; write_u64(&mut eight, 72623859790382856) && eight == [1, 2, 3, 4, 5, 6, 7, 8]);
+    assert!(rt; write(&mut two, 258u16).is_ok() && two == [1, 2]);
+    assert!(rt; write(&mut four, 16909060u32).is_ok() && four == [1, 2, 3, 4]);
+    assert!(rt; write(&mut eight, 72623859790382856u64).is_ok() && eight == [1, 2, 3, 4, 5, 6, 7, 8]);
 }

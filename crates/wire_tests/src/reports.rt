@@ -64,41 +64,11 @@ const CASES: [Case; 3] = [
     },
 ];
 
-fn same_header(a: &TradeReport, b: &TradeReport) -> bool {
-    a.originator == b.originator
-        && a.timestamp1 == b.timestamp1
-        && a.feed_sequence == b.feed_sequence
-        && a.participant_token == b.participant_token
-}
-
-fn same_trade(a: &TradeReport, b: &TradeReport) -> bool {
-    a.timestamp2 == b.timestamp2
-        && a.symbol == b.symbol
-        && a.trade_id == b.trade_id
-        && a.exempt_flag == b.exempt_flag
-}
-
-fn same_sale(a: &TradeReport, b: &TradeReport) -> bool {
-    a.condition == b.condition
-        && a.seller_days == b.seller_days
-        && a.side == b.side
-        && a.price == b.price
-        && a.volume == b.volume
-}
-
 #[test]
-fn frames_read_field_by_field(rt: HostRuntime) -> Result<(), Fail> {
+fn frames_read_field_by_field(rt: HostRuntime) {
     for case in &CASES {
-        match TradeReport::read(&case.frame) {
-            Ok(read) => {
-                assert!(rt; same_header(&read, &case.report));
-                assert!(rt; same_trade(&read, &case.report));
-                assert!(rt; same_sale(&read, &case.report));
-            }
-            Err(_) => return Err(Fail::new("a frame does not read")),
-        }
+        assert!(rt; TradeReport::read(&case.frame) == Ok(case.report));
     }
-    Ok(())
 }
 
 #[test]
@@ -116,7 +86,7 @@ fn short_buffers_stay_as_they_were(rt: HostRuntime) -> Result<(), Fail> {
     let mut buffer = [7; 71];
     match CASES[0].report.write(&mut buffer) {
         Ok(()) => return Err(Fail::new("71 bytes are too few")),
-        Err(refusal) => assert_eq!(rt; refusal.number(), 6),
+        Err(refusal) => assert_eq!(rt; u16::from(refusal), 6),
     }
     assert!(rt; buffer == [7; 71]);
     Ok(())
