@@ -4,7 +4,7 @@ ghost use Rattle.inquiry.specs.Inquiry.{inquiry_bytes, with_inquiry, writing_inq
 
 use crate::security_state::SecurityState;
 use text::symbol::Symbol;
-use wire::number::{write_u32, write_u64};
+use wire::number::Number;
 use wire::trade_report::WriteRefusal;
 
 const LENGTH: usize = 33;
@@ -22,17 +22,17 @@ pub struct Inquiry {
     pub state: SecurityState,
 }
 
-// The answer, where there is room for it. Each number's part is as wide as the number, so none is left unwritten.
+// The answer, where there is room for it.
 fn place(inquiry: &Inquiry, buffer: &mut [u8])
     requires { 33 ≤ length buffer.old }
     ensures { buffer.new ≡ inquiry_bytes inquiry.now ++ drop 33 buffer.old }
 {
     buffer[0..5].copy_from_slice(b"1cSSU");
-    write_u64(&mut buffer[5..13], inquiry.sip_time);
+    inquiry.sip_time.put(&mut buffer[5..13]);
     buffer[13..24].copy_from_slice(&inquiry.symbol);
-    write_u32(&mut buffer[24..28], inquiry.next_trade_id);
-    write_u32(&mut buffer[28..32], inquiry.action_number);
-    buffer[32] = inquiry.state.letter();
+    inquiry.next_trade_id.put(&mut buffer[24..28]);
+    inquiry.action_number.put(&mut buffer[28..32]);
+    buffer[32] = u8::from(inquiry.state);
 }
 
 impl Inquiry {

@@ -2,11 +2,11 @@
 use Rattle.std.proofs.Common.{◌≡◌, ℕ, zero, suc, ◌+◌, ◌/◌, ◌%◌, ◌^◌, ◌<◌, Bool, false, cond, eqb, ltb, List, [], ◌∷◌, ◌++◌, get_or, decimal, sym, refl, ap, ◌∙◌, arith}
 use Rattle.std.specs.Str.Parse.{digits_value}
 use Rattle.std.specs.Fmt.{digits, digit_glyph, digits_onto}
-use Rattle.std.specs.List.{AllByRecursion as All}
+use Rattle.std.specs.List.{AllByRecursion as All, onto_first}
 use Rattle.std.proofs.lemmas.Fmt.{decimal_is_IsNumeral}
 use Rattle.std.proofs.lemmas.List.{append_assoc, append-nil, length_push, take_at}
 use Rattle.std.proofs.lemmas.Bool.{cond_both, eq-eqb, ne_eqb, or_from, or_parts}
-use Rattle.cuts.specs.Cut.{has, in_front, parts}
+use Rattle.cuts.specs.Cut.{has, parts}
 use Rattle.cuts.proofs.Cuts.{parts_none}
 use Rattle.text.specs.Symbol.{text_of}
 use Rattle.wire.specs.declared.trade_report.TradeReport.{TradeReport}
@@ -15,11 +15,11 @@ use Rattle.tape.specs.TapeReading.{CommaFree, ReadsBack, tape_condition, tape_sy
 use Rattle.tape.proofs.Texts.{text_free}
 
 -- a text without the separator is the first part of all that begins with it and a separator
-first_by : (b : Bool) (x : ℕ) (xs : List ℕ) (qs ps rest : List (List ℕ)) → b ≡ false → ps ≡ xs ∷ rest → cond b qs (in_front x ps) ≡ (x ∷ xs) ∷ rest
-first_by b x xs qs ps rest other is = ap (λ t. cond t qs (in_front x ps)) other ∙ ap (in_front x) is
+first_by : (b : Bool) (x : ℕ) (xs : List ℕ) (qs ps rest : List (List ℕ)) → b ≡ false → ps ≡ xs ∷ rest → cond b qs (onto_first x ps) ≡ (x ∷ xs) ∷ rest
+first_by b x xs qs ps rest other is = ap (λ t. cond t qs (onto_first x ps)) other ∙ ap (onto_first x) is
 
 parts_front : (sep : ℕ) (text rest : List ℕ) → has sep text ≡ false → parts sep (text ++ (sep ∷ rest)) ≡ text ∷ parts sep rest
-parts_front sep [] rest free = ap (λ t. cond t ([] ∷ parts sep rest) (in_front sep (parts sep rest))) (eq-eqb sep sep refl)
+parts_front sep [] rest free = ap (λ t. cond t ([] ∷ parts sep rest) (onto_first sep (parts sep rest))) (eq-eqb sep sep refl)
 parts_front sep (x ∷ text) rest free =
     let apart = or_parts (eqb x sep) (has sep text) free in
     first_by (eqb x sep) x text ([] ∷ parts sep (text ++ (sep ∷ rest))) (parts sep (text ++ (sep ∷ rest))) (parts sep rest) apart.0 (parts_front sep text rest apart.1)

@@ -1,5 +1,5 @@
 // The tape: a line of text for each trade report that was taken.
 #![tactic(auto)]
 
-mod put;
+mod line;
 pub mod tape_line;

@@ -57,8 +57,8 @@ fn a_buffer_of_32_bytes_stays_as_it_was(rt: HostRuntime) -> Result<(), Fail> {
 
 #[test]
 fn each_state_has_its_letter(rt: HostRuntime) {
-    assert_eq!(rt; SecurityState::Trading.letter(), 84);
-    assert_eq!(rt; SecurityState::Quoting.letter(), 81);
-    assert_eq!(rt; SecurityState::Paused.letter(), 80);
-    assert_eq!(rt; SecurityState::Halted.letter(), 72);
+    assert_eq!(rt; u8::from(SecurityState::Trading), 84);
+    assert_eq!(rt; u8::from(SecurityState::Quoting), 81);
+    assert_eq!(rt; u8::from(SecurityState::Paused), 80);
+    assert_eq!(rt; u8::from(SecurityState::Halted), 72);
 }
