@@ -58,6 +58,6 @@ pub(crate) fn push_number_field<N: Integer>(line: &mut Line, n: N)
     ensures items { line.new.items ≡ line.old.items ++ 44 ∷ N.text n }
     ensures len { array_vec_len line.new ≤ array_vec_len line.old + 1 + N.MAX_STR_LEN }
 {
-    line.push(b',');
-    push_number(line, n);
+    let mut digits = Buffer::new();
+    push_field(line, digits.format(n).as_bytes());
 }

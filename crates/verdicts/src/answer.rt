@@ -1,19 +1,19 @@
 // The answer to a frame: a letter, a code, a row and a count.
 ghost use Rattle.std.specs.Prelude.{◌≡◌};
-ghost use Rattle.verdicts.specs.Answer.{answer_code, answer_count, answer_letter, answer_row};
+ghost use Rattle.verdicts.specs.Answer.{answer_code, answer_count, answer_letter, answer_row, failed};
 
 use crate::code::Code;
 use crate::row::Row;
 
 // Why a frame was rejected or its line cut.
-#[derive(Clone, Copy)]
+#[derive(Clone, Copy, PartialEq, Eq, Debug)]
 pub struct Reason {
     pub code: Code,
     pub row: Row,
 }
 
 // What becomes of a frame that fails a row.
-#[derive(Clone, Copy)]
+#[derive(Clone, Copy, PartialEq, Eq, Debug)]
 pub enum Verdict {
     // its feed sequence is below the expected one, as that of a frame sent again
     PassedOver,
@@ -22,11 +22,26 @@ pub enum Verdict {
     Cut(Reason),
 }
 
-#[derive(Clone, Copy)]
+#[derive(Clone, Copy, PartialEq, Eq, Debug)]
 pub enum Answer {
     // with the number of securities that a mass trading action was applied to, and 0 for a trade report
     Taken(usize),
-    Failed(Verdict),
+    PassedOver,
+    Rejected(Reason),
+    Cut(Reason),
+}
+
+// The answer to a frame that fails a row.
+impl From<Verdict> for Answer {
+    ghost from_gives = { λ verdict answer. answer ≡ failed verdict };
+
+    fn from(verdict: Verdict) -> Answer {
+        match verdict {
+            Verdict::PassedOver => Answer::PassedOver,
+            Verdict::Rejected(reason) => Answer::Rejected(reason),
+            Verdict::Cut(reason) => Answer::Cut(reason),
+        }
+    }
 }
 
 impl Answer {
@@ -35,9 +50,9 @@ impl Answer {
     {
         match self {
             Answer::Taken(_) => b'T',
-            Answer::Failed(Verdict::PassedOver) => b'P',
-            Answer::Failed(Verdict::Rejected(_)) => b'R',
-            Answer::Failed(Verdict::Cut(_)) => b'C',
+            Answer::PassedOver => b'P',
+            Answer::Rejected(_) => b'R',
+            Answer::Cut(_) => b'C',
         }
     }
 
@@ -46,9 +61,8 @@ impl Answer {
         ensures { result ≡ answer_code self.now }
     {
         match self {
-            Answer::Failed(Verdict::Rejected(reason)) => reason.code.number(),
-            Answer::Failed(Verdict::Cut(reason)) => reason.code.number(),
-            _ => 0,
+            Answer::Rejected(reason) | Answer::Cut(reason) => u16::from(reason.code),
+            Answer::Taken(_) | Answer::PassedOver => 0,
         }
     }
 
@@ -57,9 +71,8 @@ impl Answer {
         ensures { result ≡ answer_row self.now }
     {
         match self {
-            Answer::Failed(Verdict::Rejected(reason)) => reason.row.number(),
-            Answer::Failed(Verdict::Cut(reason)) => reason.row.number(),
-            _ => 0,
+            Answer::Rejected(reason) | Answer::Cut(reason) => u16::from(reason.row),
+            Answer::Taken(_) | Answer::PassedOver => 0,
         }
     }
 
@@ -68,7 +81,7 @@ impl Answer {
     {
         match self {
             Answer::Taken(count) => *count,
-            Answer::Failed(_) => 0,
+            Answer::PassedOver | Answer::Rejected(_) | Answer::Cut(_) => 0,
         }
     }
 }

@@ -3,7 +3,7 @@ ghost use Rattle.std.specs.Prelude.{◌≡◌};
 ghost use Rattle.verdicts.specs.Code.{code_number};
 
 // Named for what is wrong with the frame.
-#[derive(Clone, Copy)]
+#[derive(Clone, Copy, PartialEq, Eq, Debug)]
 pub enum Code {
     // the header, for which there is no code of its own
     Header,
@@ -19,11 +19,12 @@ pub enum Code {
     TradeId,
 }
 
-impl Code {
-    pub fn number(&self) -> u16
-        ensures { result ≡ code_number self.now }
-    {
-        match self {
+// A code's number, as it is published.
+impl From<Code> for u16 {
+    ghost from_gives = { λ code number. number ≡ code_number code };
+
+    fn from(code: Code) -> u16 {
+        match code {
             Code::Header => 0,
             Code::NotOpen => 11,
             Code::SecurityIdentifier => 26,

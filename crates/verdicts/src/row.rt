@@ -5,7 +5,7 @@ ghost use Rattle.verdicts.specs.Row.{mass_action_number, row_number, trade_numbe
 use wire::header::HeaderRow;
 
 // The rows of a trade report.
-#[derive(Clone, Copy)]
+#[derive(Clone, Copy, PartialEq, Eq, Debug)]
 pub enum TradeRow {
     SymbolPrintable,
     SymbolListed,
@@ -27,7 +27,7 @@ pub enum TradeRow {
 }
 
 // The rows of a market center mass trading action.
-#[derive(Clone, Copy)]
+#[derive(Clone, Copy, PartialEq, Eq, Debug)]
 pub enum MassActionRow {
     FirstPrintable,
     LastPrintable,
@@ -37,7 +37,7 @@ pub enum MassActionRow {
     DayOpen,
 }
 
-#[derive(Clone, Copy)]
+#[derive(Clone, Copy, PartialEq, Eq, Debug)]
 pub enum Row {
     // what is asked of the frame alone
     Header(HeaderRow),
@@ -49,11 +49,12 @@ pub enum Row {
     MassAction(MassActionRow),
 }
 
-impl TradeRow {
-    pub fn number(&self) -> u16
-        ensures { result ≡ trade_number self.now }
-    {
-        match self {
+// A row's number in its own table.
+impl From<TradeRow> for u16 {
+    ghost from_gives = { λ row number. number ≡ trade_number row };
+
+    fn from(row: TradeRow) -> u16 {
+        match row {
             TradeRow::SymbolPrintable => 1,
             TradeRow::SymbolListed => 2,
             TradeRow::IdNotAbove => 3,
@@ -73,11 +74,11 @@ impl TradeRow {
     }
 }
 
-impl MassActionRow {
-    pub fn number(&self) -> u16
-        ensures { result ≡ mass_action_number self.now }
-    {
-        match self {
+impl From<MassActionRow> for u16 {
+    ghost from_gives = { λ row number. number ≡ mass_action_number row };
+
+    fn from(row: MassActionRow) -> u16 {
+        match row {
             MassActionRow::FirstPrintable => 1,
             MassActionRow::LastPrintable => 2,
             MassActionRow::ActionPrintable => 3,
@@ -88,16 +89,17 @@ impl MassActionRow {
     }
 }
 
-impl Row {
-    pub fn number(&self) -> u16
-        ensures { result ≡ row_number self.now }
-    {
-        match *self {
-            Row::Header(row) => row.number(),
+// A row's number: those of a kind from 1, those of the header from 101.
+impl From<Row> for u16 {
+    ghost from_gives = { λ row number. number ≡ row_number row };
+
+    fn from(row: Row) -> u16 {
+        match row {
+            Row::Header(row) => u16::from(row),
             Row::Originator => 104,
             Row::FeedSequence => 105,
-            Row::Trade(row) => row.number(),
-            Row::MassAction(row) => row.number(),
+            Row::Trade(row) => u16::from(row),
+            Row::MassAction(row) => u16::from(row),
         }
     }
 }
