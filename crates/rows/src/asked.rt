@@ -1,27 +1,28 @@
 // One row: what has to hold, and what the processor does otherwise.
 ghost use Rattle.std.specs.Prelude.{◌≡◌};
 ghost use Rattle.rows.specs.Asked.{cut_unless, failing, reject_unless};
+ghost use Rattle.rows.specs.Judged.{judgement};
 
 use verdicts::answer::{Reason, Verdict};
 use verdicts::code::Code;
 use verdicts::row::Row;
 
-pub fn reject_unless(holds: bool, code: Code, row: Row) -> Option<Verdict>
-    ensures { result ≡ failing (reject_unless holds code row) }
+pub fn reject_unless(holds: bool, code: Code, row: Row) -> Result<(), Verdict>
+    ensures { result ≡ judgement (failing (reject_unless holds code row)) tt }
 {
     if holds {
-        None
+        Ok(())
     } else {
-        Some(Verdict::Rejected(Reason { code, row }))
+        Err(Verdict::Rejected(Reason { code, row }))
     }
 }
 
-pub fn cut_unless(holds: bool, code: Code, row: Row) -> Option<Verdict>
-    ensures { result ≡ failing (cut_unless holds code row) }
+pub fn cut_unless(holds: bool, code: Code, row: Row) -> Result<(), Verdict>
+    ensures { result ≡ judgement (failing (cut_unless holds code row)) tt }
 {
     if holds {
-        None
+        Ok(())
     } else {
-        Some(Verdict::Cut(Reason { code, row }))
+        Err(Verdict::Cut(Reason { code, row }))
     }
 }
