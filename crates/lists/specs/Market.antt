@@ -1,5 +1,5 @@
 -- The market of a practice day: its securities and its lines.
-use Rattle.std.specs.Prelude.{◌≡◌, ℕ, zero, suc, ◌≤◌, Bool, true, false, not, ◌&&◌, List, [], ◌∷◌, length, Some, None, Option, ◌==◌}
+use Rattle.std.specs.Prelude.{◌≡◌, ℕ, ◌≤◌, Bool, true, false, not, ◌&&◌, List, [], ◌∷◌, length, Some, None, Option, ◌==◌, slice_get}
 use Rattle.cuts.specs.Cut.{has}
 use Rattle.lists.specs.ListRows.{ascends, among}
 
@@ -39,9 +39,7 @@ PlainOriginatorList originators = OriginatorList originators × (none_has 44 ori
 
 -- what stands at an index, if anything does
 abbrev pub at_index : List (List ℕ) → ℕ → Option (List ℕ)
-at_index [] index = None
-at_index (text ∷ texts) zero = Some text
-at_index (text ∷ texts) (suc index) = at_index texts index
+at_index texts index = slice_get texts index
 
 -- what is told has no comma
 abbrev pub Commaless : Option (List ℕ) → Type 0
