@@ -11,6 +11,10 @@ pub enum Bucket {
     Four,
 }
 
+impl Bucket {
+    pub const ALL: [Bucket; 4] = [Bucket::One, Bucket::Two, Bucket::Three, Bucket::Four];
+}
+
 // The byte is no bucket's digit.
 #[derive(Clone, Copy, PartialEq, Eq, Debug)]
 pub struct NoBucket;
