@@ -1,5 +1,5 @@
 -- The code book of a sheet's rows.
-use Rattle.std.specs.Prelude.{◌≡◌, ℕ, Bool, true, false, not, ◌||◌, List, [], ◌∷◌, refl}
+use Rattle.std.specs.Prelude.{◌≡◌, ℕ, Bool, true, false, not, List, refl}
 use Rattle.std.specs.List.{list_any}
 use Rattle.codes.specs.BookRows.{among_rows, fields_of}
 use Rattle.cuts.specs.Cut.{has}
