@@ -14,6 +14,10 @@ pub record Sets : Type 0 where
   pub no_comma_side : sides 44 ≡ false
   pub no_comma_value : (bucket : Bucket) → values bucket 44 ≡ false
 
+-- a byte that is a value of some bucket
+abbrev pub in_some_bucket : Sets → ℕ → Bool
+in_some_bucket s b = s.values One b || (s.values Two b || (s.values Three b || s.values Four b))
+
 -- a byte that is a flag, a side, or a value of some bucket
 abbrev pub anywhere : Sets → ℕ → Bool
-anywhere s b = s.flags b || (s.sides b || (s.values One b || (s.values Two b || (s.values Three b || s.values Four b))))
+anywhere s b = s.flags b || (s.sides b || in_some_bucket s b)

@@ -1,5 +1,6 @@
 -- The code book of a sheet's rows.
-use Rattle.std.specs.Prelude.{◌≡◌, ℕ, Bool, true, false, not, ◌||◌, List, [], ◌∷◌, refl}
+use Rattle.std.specs.Prelude.{◌≡◌, ℕ, Bool, true, false, not, List, refl}
+use Rattle.std.specs.List.{list_any}
 use Rattle.codes.specs.BookRows.{among_rows, fields_of}
 use Rattle.cuts.specs.Cut.{has}
 use Rattle.codes.specs.declared.book_row.BookRow.{BookRow}
@@ -14,8 +15,7 @@ Clean rows = (row : BookRow) → has 44 (fields_of row) ≡ true → among_rows 
 
 -- a condition fails with a flag if some row bars the flag with one of its bytes
 abbrev pub any_barred : List BookRow → ℕ → List ℕ → Bool
-any_barred rows flag [] = false
-any_barred rows flag (b ∷ bs) = among_rows rows (Barred flag b) || any_barred rows flag bs
+any_barred rows flag condition = list_any (λ b. among_rows rows (Barred flag b)) condition
 
 abbrev pub comma_free : (rows : List BookRow) → Clean rows → (bucket : Bucket) → among_rows rows (Value bucket 44) ≡ false
 comma_free rows clean One = clean (Value One 44) refl

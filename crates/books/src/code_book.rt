@@ -1,6 +1,6 @@
 // What is asked of a code book.
 ghost use Rattle.std.specs.Prelude.{◌≡◌, false};
-ghost use Rattle.books.specs.Sets.{anywhere, Sets};
+ghost use Rattle.books.specs.Sets.{anywhere, in_some_bucket, Sets};
 
 use sheets::bucket::Bucket;
 
@@ -25,15 +25,19 @@ pub trait CodeBook {
         ensures { result ≡ (sets self.now).pairs flag condition.now };
 }
 
+// Whether a book accepts a byte as a value of any bucket.
+pub fn accepts_in_some_bucket<B: CodeBook>(book: &B, byte: u8) -> bool
+    ensures { result ≡ in_some_bucket (B.CodeBook.sets book.now) byte }
+{
+    Bucket::ALL
+        .iter()
+        .any(|bucket| book.accepts_value(*bucket, byte))
+}
+
 // Whether a book accepts a byte as a flag, as a side, or as a value of any bucket. No book accepts a comma.
 pub fn accepts_anywhere<B: CodeBook>(book: &B, byte: u8) -> bool
     ensures value { result ≡ anywhere (B.CodeBook.sets book.now) byte }
     ensures comma { byte ≡ 44 → result ≡ false }
 {
-    book.accepts_flag(byte)
-        || book.accepts_side(byte)
-        || book.accepts_value(Bucket::One, byte)
-        || book.accepts_value(Bucket::Two, byte)
-        || book.accepts_value(Bucket::Three, byte)
-        || book.accepts_value(Bucket::Four, byte)
+    book.accepts_flag(byte) || book.accepts_side(byte) || accepts_in_some_bucket(book, byte)
 }

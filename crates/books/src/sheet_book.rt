@@ -27,12 +27,9 @@ impl<'a> SheetBook<'a> {
 fn is_any_barred(rows: &[BookRow], flag: u8, condition: &[u8]) -> bool
     ensures { result ≡ any_barred rows.now flag condition.now }
 {
-    for byte in condition {
-        if is_among(&BookRow::Barred(flag, *byte), rows) {
-            return true;
-        }
-    }
-    false
+    condition
+        .iter()
+        .any(|byte| is_among(&BookRow::Barred(flag, *byte), rows))
 }
 
 impl<'a> CodeBook for SheetBook<'a> {

@@ -3,7 +3,6 @@ ghost use Rattle.std.specs.Prelude.{◌≡◌};
 ghost use Rattle.books.specs.Standard.{reasons as reasons_of, standard_sets, values as values_of};
 
 use crate::code_book::CodeBook;
-use cuts::cut::contains;
 use sheets::bucket::Bucket;
 
 #[derive(Clone, Copy)]
@@ -35,22 +34,26 @@ impl CodeBook for StandardBook {
     ghost sets = { λ _. standard_sets };
 
     fn accepts_flag(&self, flag: u8) -> bool {
-        contains(b"X ", flag)
+        b"X ".contains(&flag)
     }
 
     fn accepts_side(&self, side: u8) -> bool {
-        contains(b"BSXR", side)
+        b"BSXR".contains(&side)
     }
 
     fn accepts_value(&self, bucket: Bucket, value: u8) -> bool {
-        contains(values(bucket), value)
+        values(bucket).contains(&value)
     }
 
     fn go_together(&self, flag: u8, condition: &[u8]) -> bool {
-        condition.len() == 4
-            && contains(values(Bucket::One), condition[0])
-            && contains(reasons(flag), condition[1])
-            && contains(values(Bucket::Three), condition[2])
-            && contains(values(Bucket::Four), condition[3])
+        match condition {
+            [settlement, reason, hours, detail] => {
+                values(Bucket::One).contains(settlement)
+                    && reasons(flag).contains(reason)
+                    && values(Bucket::Three).contains(hours)
+                    && values(Bucket::Four).contains(detail)
+            }
+            _ => false,
+        }
     }
 }

@@ -1,8 +1,9 @@
 -- No row of a book sheet names a comma: commas part its fields.
-use Rattle.std.proofs.Common.{◌≡◌, ℕ, zero, suc, ◌-◌, Bool, true, false, cond, ◌||◌, eqb, List, [], ◌∷◌, get_or, IfSome, IfOk, Some, None, Ok, Err, Option, Result, refl, ap, ◌∙◌}
+use Rattle.std.proofs.Common.{◌≡◌, ℕ, Bool, true, false, cond, ◌||◌, eqb, List, [], ◌∷◌, IfSome, IfOk, Some, None, Ok, Err, Option, Result, ap, ◌∙◌}
 use Rattle.std.specs.List.{AllByRecursion as All}
 use Rattle.std.proofs.ByRecursion.{All-push}
 use Rattle.std.proofs.lemmas.Result.{IfOk-at_ok}
+use Rattle.std.proofs.lemmas.Bool.{or_parts}
 use Rattle.text.specs.Printable.{printable}
 use Rattle.sheets.specs.declared.bucket.Bucket.{Bucket}
 use Rattle.sheets.specs.declared.bucket.Bucket.TheVariants.{One, Two, Three, Four}
@@ -10,10 +11,11 @@ use Rattle.codes.specs.declared.book_row.BookRow.{BookRow}
 use Rattle.codes.specs.declared.book_row.BookRow.TheVariants.{Flag, Side, Value, Barred}
 use Rattle.sheets.specs.declared.fault.FieldFault.{FieldFault}
 use Rattle.sheets.specs.declared.fault.FieldFault.TheVariants.{UnknownRow}
-use Rattle.cuts.specs.Cut.{in_front, parts, has, field_of, only_byte}
+use Rattle.cuts.specs.Cut.{has, field_of, only_byte}
 use Rattle.sheets.specs.Layers.{line_of}
 use Rattle.sheets.specs.Forms.{printable_by, printable_field, bucket_field}
 use Rattle.codes.specs.BookRows.{flag_row, side_row, value_row, barred_row, book_row_by, book_rules, fields_of}
+use Rattle.sheets.proofs.Commas.{field_lacks}
 use Rattle.sheets.proofs.Formed.{choice_made, counted_made, then_made, formed_made, line_made}
 use Rattle.sheets.specs.Reading.{Faultless}
 use Rattle.sheets.proofs.Passed.{holds, Keeps}
@@ -22,34 +24,9 @@ use Rattle.sheets.proofs.Passed.{holds, Keeps}
 abbrev pub CommaFree : BookRow → Type 0
 CommaFree row = has 44 (fields_of row) ≡ false
 
--- no part of a text has the separator
-lacks_by : (sep x : ℕ) (ps : List (List ℕ)) → eqb x sep ≡ false → All (λ p. has sep p ≡ false) ps → All (λ p. has sep p ≡ false) (in_front x ps)
-lacks_by sep x [] e h = tt
-lacks_by sep x (p ∷ ps) e h = (ap (λ b. b || has sep p) e ∙ h.0, h.1)
-
-lack_cases : (sep x : ℕ) (ps : List (List ℕ)) (b : Bool) → eqb x sep ≡ b → All (λ p. has sep p ≡ false) ps → All (λ p. has sep p ≡ false) (cond b ([] ∷ ps) (in_front x ps))
-lack_cases sep x ps true e h = (refl, h)
-lack_cases sep x ps false e h = lacks_by sep x ps e h
-
-parts_lack : (sep : ℕ) (xs : List ℕ) → All (λ p. has sep p ≡ false) (parts sep xs)
-parts_lack sep [] = (refl, tt)
-parts_lack sep (x ∷ xs) = lack_cases sep x (parts sep xs) (eqb x sep) refl (parts_lack sep xs)
-
-at_all : (P : List ℕ → Type 0) (xs : List (List ℕ)) (k : ℕ) → P [] → All P xs → P (get_or xs k [])
-at_all P [] k d h = d
-at_all P (x ∷ xs) zero d h = h.0
-at_all P (x ∷ xs) (suc k) d h = at_all P xs k d h.1
-
-field_lacks : (number : ℕ) (line : List ℕ) → has 44 (field_of number line) ≡ false
-field_lacks number line = at_all (λ p. has 44 p ≡ false) (parts 44 line) (number - 1) refl (parts_lack 44 line)
-
-or_none : (b : Bool) → (b || false) ≡ false → b ≡ false
-or_none true e = e
-or_none false e = refl
-
 only_lacks : (p : List ℕ) → has 44 p ≡ false → IfSome (only_byte p) (λ b. eqb b 44 ≡ false)
 only_lacks [] h = tt
-only_lacks (b ∷ []) h = or_none (eqb b 44) h
+only_lacks (b ∷ []) h = (or_parts (eqb b 44) false h).0
 only_lacks (b ∷ d ∷ bs) h = tt
 
 printable_cases : (b : ℕ) (t : Bool) → eqb b 44 ≡ false → IfSome (cond t (Some b) None) (λ x. eqb x 44 ≡ false)

@@ -1,5 +1,6 @@
 -- The book sheet: rows `E,flag`, `D,side`, `C,bucket,value` and `N,flag,value`.
-use Rattle.std.specs.Prelude.{ℕ, Bool, true, false, cond, ◌||◌, List, [], ◌∷◌, length, Some, None, Ok, Err, Option, Result, ◌==◌, nat_le}
+use Rattle.std.specs.Prelude.{ℕ, Bool, true, cond, List, [], ◌∷◌, length, Some, None, Ok, Err, Option, Result, ◌==◌, nat_le}
+use Rattle.std.specs.List.{list_any}
 use Rattle.std.specs.Str.{bytes_eq}
 use Rattle.sheets.specs.declared.fault.FieldFault.{FieldFault}
 use Rattle.sheets.specs.declared.fault.FieldFault.TheVariants.{UnknownRow}
@@ -9,11 +10,15 @@ use Rattle.cuts.specs.Cut.{field_of, only_byte}
 use Rattle.sheets.specs.Layers.{Rules}
 use Rattle.sheets.specs.Forms.{digit_of, counted, and_then, printable_field, bucket_field}
 
+-- a row of one code
+abbrev pub code_row : (ℕ → BookRow) → List ℕ → Result BookRow FieldFault
+code_row make line = counted 2 line (and_then (printable_field 2 line) (λ code. Ok (make code)))
+
 abbrev pub flag_row : List ℕ → Result BookRow FieldFault
-flag_row line = counted 2 line (and_then (printable_field 2 line) (λ flag. Ok (Flag flag)))
+flag_row line = code_row (λ flag. Flag flag) line
 
 abbrev pub side_row : List ℕ → Result BookRow FieldFault
-side_row line = counted 2 line (and_then (printable_field 2 line) (λ side. Ok (Side side)))
+side_row line = code_row (λ side. Side side) line
 
 abbrev pub value_row : List ℕ → Result BookRow FieldFault
 value_row line =
@@ -48,8 +53,7 @@ same_row one other = bytes_eq (fields_of one) (fields_of other)
 
 -- a row that is there already
 abbrev pub among_rows : List BookRow → BookRow → Bool
-among_rows [] row = false
-among_rows (other ∷ others) row = same_row other row || among_rows others row
+among_rows others row = list_any (λ other. same_row other row) others
 
 -- at most 256 rows
 abbrev pub book_beyond : List BookRow → BookRow → Bool

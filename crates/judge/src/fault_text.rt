@@ -4,7 +4,7 @@ use show::layer::layer_name;
 
 // Every line before the one at fault is a row.
 pub(crate) fn print_fault(rt: &HostRuntime, sheet: &str, fault: &Fault) -> anyhow::Result<()> {
-    let cause = fault.cause.number();
+    let cause = u16::from(fault.cause);
     let layer = layer_name(fault.layer);
     let line = fault.line;
     let field = fault.field;

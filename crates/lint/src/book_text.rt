@@ -63,7 +63,7 @@ fn print_row(rt: &HostRuntime, row: &BookRow) -> anyhow::Result<()> {
         BookRow::Side(side) => print_set(rt, "side", &[*side]),
         BookRow::Value(bucket, value) => {
             let value = quoted(rt.alloc(), &[*value])?;
-            let bucket = char::from(bucket.digit());
+            let bucket = char::from(u8::from(*bucket));
             println!(rt; "  value {value} in bucket {bucket}")?;
             Ok(())
         }

@@ -68,7 +68,7 @@ pub(crate) fn print_fault(
     text: &[u8],
     fault: &Fault,
 ) -> anyhow::Result<()> {
-    let cause = fault.cause.number();
+    let cause = u16::from(fault.cause);
     let why = rule_text(fault.cause);
     let layer = layer_name(fault.layer);
     let line = fault.line;

@@ -1,11 +1,13 @@
 -- The rows of a list sheet that is read to its end are a market.
-use Rattle.std.proofs.Common.{◌≡◌, ℕ, ◌+◌, ◌-◌, ◌≤◌, Bool, true, false, cond, not, ◌&&◌, eqb, leb, List, [], ◌∷◌, ◌++◌, length, replicate, IfSome, IfOk, Some, None, Ok, Err, Option, sym, refl, ap, ◌∙◌, subst, arith}
+use Rattle.std.proofs.Common.{◌≡◌, ℕ, ◌+◌, ◌-◌, ◌≤◌, Bool, true, false, cond, not, ◌&&◌, ◌||◌, eqb, leb, List, [], ◌∷◌, ◌++◌, length, replicate, IfSome, IfOk, Some, None, Ok, Err, Option, sym, refl, ap, ◌∙◌, subst, arith}
+use Rattle.std.specs.List.{list_all}
 use Rattle.std.specs.Str.{bytes_eq}
-use Rattle.std.proofs.lemmas.Slice.Eq.{bytes_eq-Decides}
+use Rattle.std.proofs.lemmas.Cmp.{nat_list_eq_equiv}
+use Rattle.std.proofs.lemmas.List.Elements.{filter_map-append}
+use Rattle.std.proofs.lemmas.List.Folds.{list_all-append, list_any-append}
 use Rattle.std.proofs.lemmas.List.{append-nil, length-append, length_push, length-replicate}
 use Rattle.std.proofs.lemmas.Result.{IfOk-at_ok}
 use Rattle.std.proofs.lemmas.Bool.{and_from, and_parts, or_parts, or_from, not-true, not-false, not_from_false, eqb-true, eq-eqb, leb-true, leb-false}
-use Rattle.std.proofs.lemmas.Bool.Decides.{same_from_decides, Decides-like}
 use Rattle.text.specs.Symbol.{symbol_of}
 use Rattle.lists.specs.declared.list_row.ListRow.{ListRow}
 use Rattle.lists.specs.declared.list_row.ListRow.TheVariants.{Security, Line}
@@ -13,9 +15,10 @@ use Rattle.sheets.specs.declared.fault.FieldFault.TheVariants.{UnknownRow}
 use Rattle.cuts.specs.Cut.{field_of, has, only_byte}
 use Rattle.sheets.specs.Layers.{line_of, row_in}
 use Rattle.sheets.specs.Forms.{all_visible, symbol_by, symbol_field, originator_by, originator_field}
-use Rattle.lists.specs.ListRows.{security_row, line_row, list_row_by, securities, lines, latest, ascends, among, list_rules, list_whole}
+use Rattle.lists.specs.ListRows.{originator_in, symbol_in, security_row, line_row, list_row_by, securities, lines, latest, ascends, among, list_rules, list_whole}
 use Rattle.lists.specs.Market.{ascend_from, distinct, all_long, none_has, OriginatorList, SymbolList}
-use Rattle.lists.proofs.Commas.{field_lacks, padding_lacks, none_push}
+use Rattle.lists.proofs.Commas.{padding_lacks}
+use Rattle.sheets.proofs.Commas.{field_lacks}
 use Rattle.sheets.proofs.Formed.{choice_made, counted_made, then_made, formed_made, line_made}
 use Rattle.sheets.specs.Reading.{Faultless}
 use Rattle.sheets.proofs.Passed.{holds, Keeps, Stands}
@@ -42,36 +45,26 @@ ascend_push o (y ∷ ys) x h e =
     let p = and_parts (ascends o y) (ascend_from (Some y) ys) h in
     and_from (ascends o y) (ascend_from (Some y) (ys ++ (x ∷ []))) p.0 (ascend_push (Some y) ys x p.1 e)
 
-long_push : (n : ℕ) (xs : List (List ℕ)) (x : List ℕ) → all_long n xs ≡ true → length x ≡ n → all_long n (xs ++ (x ∷ [])) ≡ true
-long_push n [] x h e = and_from (eqb (length x) n) true (eq-eqb (length x) n e) refl
-long_push n (y ∷ ys) x h e =
-    let p = and_parts (eqb (length y) n) (all_long n ys) h in
-    and_from (eqb (length y) n) (all_long n (ys ++ (x ∷ []))) p.0 (long_push n ys x p.1 e)
-
-same_sym : (xs ys : List ℕ) → bytes_eq xs ys ≡ bytes_eq ys xs
-same_sym xs ys =
-    same_from_decides (bytes_eq xs ys) (bytes_eq ys xs) (bytes_eq-Decides xs ys) (Decides-like (bytes_eq ys xs) sym sym (bytes_eq-Decides ys xs))
+all_push : (p : List ℕ → Bool) (xs : List (List ℕ)) (x : List ℕ) → list_all p xs ≡ true → p x ≡ true → list_all p (xs ++ (x ∷ [])) ≡ true
+all_push p xs x h e = list_all-append p xs (x ∷ []) ∙ and_from (list_all p xs) (p x && true) h (and_from (p x) true e refl)
 
 among_push : (y : List ℕ) (xs : List (List ℕ)) (x : List ℕ) → among y xs ≡ false → bytes_eq x y ≡ false → among y (xs ++ (x ∷ [])) ≡ false
-among_push y [] x h e = or_from (bytes_eq x y) false e refl
-among_push y (z ∷ zs) x h e =
-    let p = or_parts (bytes_eq z y) (among y zs) h in
-    or_from (bytes_eq z y) (among y (zs ++ (x ∷ []))) p.0 (among_push y zs x p.1 e)
+among_push y xs x h e = list_any-append (λ other. bytes_eq other y) xs (x ∷ []) ∙ or_from (among y xs) (bytes_eq x y || false) h (or_from (bytes_eq x y) false e refl)
 
 distinct_push : (xs : List (List ℕ)) (x : List ℕ) → distinct xs ≡ true → among x xs ≡ false → distinct (xs ++ (x ∷ [])) ≡ true
 distinct_push [] x h e = refl
 distinct_push (y ∷ ys) x h e =
     let p = and_parts (not (among y ys)) (distinct ys) h in
     let q = or_parts (bytes_eq y x) (among x ys) e in
-    let apart = among_push y ys x (not-true (among y ys) p.0) (same_sym x y ∙ q.0) in
+    let apart = among_push y ys x (not-true (among y ys) p.0) (nat_list_eq_equiv.symm x y ∙ q.0) in
     and_from (not (among y (ys ++ (x ∷ [])))) (distinct (ys ++ (x ∷ []))) (not_from_false _ apart) (distinct_push ys x p.1 q.1)
 
 more_symbol : (xs ys : List (List ℕ)) (x : List ℕ) → Sound xs ys → ascends (latest None xs) x ≡ true → leb 256 (length xs) ≡ false → Formed 11 x → Sound (xs ++ (x ∷ [])) ys
 more_symbol xs ys x s up few f = record {
   few_symbols = simp length_push (omega (arith, leb-false 256 (length xs) few));
   ascending = ascend_push None xs x s.ascending up;
-  eleven_bytes = long_push 11 xs x s.eleven_bytes f.0;
-  plain_symbols = none_push 44 xs x s.plain_symbols f.1;
+  eleven_bytes = all_push (λ text. eqb (length text) 11) xs x s.eleven_bytes (eq-eqb (length x) 11 f.0);
+  plain_symbols = all_push (λ text. not (has 44 text)) xs x s.plain_symbols (not_from_false _ f.1);
   few_originators = s.few_originators;
   none_twice = s.none_twice;
   two_bytes = s.two_bytes;
@@ -86,19 +79,9 @@ more_originator xs ys y s apart few f = record {
   plain_symbols = s.plain_symbols;
   few_originators = simp length_push (omega (arith, leb-false 16 (length ys) few));
   none_twice = distinct_push ys y s.none_twice apart;
-  two_bytes = long_push 2 ys y s.two_bytes f.0;
-  plain_originators = none_push 44 ys y s.plain_originators f.1;
+  two_bytes = all_push (λ text. eqb (length text) 2) ys y s.two_bytes (eq-eqb (length y) 2 f.0);
+  plain_originators = all_push (λ text. not (has 44 text)) ys y s.plain_originators (not_from_false _ f.1);
 }
-
-pub securities_append : (xs ys : List ListRow) → securities (xs ++ ys) ≡ securities xs ++ securities ys
-securities_append [] ys = refl
-securities_append (Security s ∷ xs) ys = ap (λ u. s ∷ u) (securities_append xs ys)
-securities_append (Line o ∷ xs) ys = securities_append xs ys
-
-pub lines_append : (xs ys : List ListRow) → lines (xs ++ ys) ≡ lines xs ++ lines ys
-lines_append [] ys = refl
-lines_append (Security s ∷ xs) ys = lines_append xs ys
-lines_append (Line o ∷ xs) ys = ap (λ u. o ∷ u) (lines_append xs ys)
 
 -- a row's symbol has eleven bytes, or its originator two, and no comma
 FormedRow : ListRow → Type 0
@@ -161,12 +144,12 @@ keeps_by : (seen : List ListRow) (r : _) (row : ListRow) → SoundRows seen → 
 unfolding FormedRow
 keeps_by seen r (Security s) held st formed =
     let more = more_symbol (securities seen) (lines seen) s held (not-false _ st.ordered) st.fits formed in
-    subst (λ u. Sound (securities (seen ++ (Security s ∷ []))) u) (sym (lines_append seen (Security s ∷ []) ∙ append-nil (lines seen)))
-    (subst (λ u. Sound u (lines seen)) (sym (securities_append seen (Security s ∷ []))) more)
+    subst (λ u. Sound (securities (seen ++ (Security s ∷ []))) u) (sym (filter_map-append originator_in seen (Security s ∷ []) ∙ append-nil (lines seen)))
+    (subst (λ u. Sound u (lines seen)) (sym (filter_map-append symbol_in seen (Security s ∷ []))) more)
 keeps_by seen r (Line o) held st formed =
     let more = more_originator (securities seen) (lines seen) o held st.ordered st.fits formed in
-    subst (λ u. Sound (securities (seen ++ (Line o ∷ []))) u) (sym (lines_append seen (Line o ∷ [])))
-    (subst (λ u. Sound u (lines seen ++ (o ∷ []))) (sym (securities_append seen (Line o ∷ []) ∙ append-nil (securities seen))) more)
+    subst (λ u. Sound (securities (seen ++ (Line o ∷ []))) u) (sym (filter_map-append originator_in seen (Line o ∷ [])))
+    (subst (λ u. Sound u (lines seen ++ (o ∷ []))) (sym (filter_map-append symbol_in seen (Line o ∷ []) ∙ append-nil (securities seen))) more)
 
 pub list_keeps : Keeps list_rules SoundRows
 list_keeps seen line row held st =

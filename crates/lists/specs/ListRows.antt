@@ -1,5 +1,6 @@
 -- The list sheet: rows `S,symbol` and `L,originator`, in any mix.
-use Rattle.std.specs.Prelude.{ℕ, Bool, true, false, cond, not, ◌&&◌, ◌||◌, List, [], ◌∷◌, length, Some, None, Ok, Err, Option, Result, ◌==◌, nat_le}
+use Rattle.std.specs.Prelude.{ℕ, Bool, true, cond, not, ◌&&◌, List, length, Some, None, Ok, Err, Option, Result, ◌==◌, nat_le}
+use Rattle.std.specs.List.{filter_map, last_or, list_any}
 use Rattle.std.specs.Str.{bytes_eq}
 use Rattle.text.specs.Symbol.{precedes}
 use Rattle.sheets.specs.declared.fault.FieldFault.{FieldFault}
@@ -24,29 +25,32 @@ list_row_by (Some letter) line = cond (letter == 83) (security_row line) (cond (
 abbrev pub list_row : List ℕ → Result ListRow FieldFault
 list_row line = list_row_by (only_byte (field_of 1 line)) line
 
+-- what one row names
+abbrev pub symbol_in : ListRow → Option (List ℕ)
+symbol_in (Security symbol) = Some symbol
+symbol_in (Line originator) = None
+
+abbrev pub originator_in : ListRow → Option (List ℕ)
+originator_in (Security symbol) = None
+originator_in (Line originator) = Some originator
+
 -- the symbols of the S rows, and the originators of the L rows, in order
 abbrev pub securities : List ListRow → List (List ℕ)
-securities [] = []
-securities (Security symbol ∷ rows) = symbol ∷ securities rows
-securities (Line originator ∷ rows) = securities rows
+securities rows = filter_map symbol_in rows
 
 abbrev pub lines : List ListRow → List (List ℕ)
-lines [] = []
-lines (Security symbol ∷ rows) = lines rows
-lines (Line originator ∷ rows) = originator ∷ lines rows
+lines rows = filter_map originator_in rows
 
 -- the last of some texts, or else the one before them
 abbrev pub latest : Option (List ℕ) → List (List ℕ) → Option (List ℕ)
-latest before [] = before
-latest before (text ∷ texts) = latest (Some text) texts
+latest before texts = last_or before texts
 
 abbrev pub ascends : Option (List ℕ) → List ℕ → Bool
 ascends None symbol = true
 ascends (Some before) symbol = precedes before symbol
 
 abbrev pub among : List ℕ → List (List ℕ) → Bool
-among text [] = false
-among text (other ∷ others) = bytes_eq other text || among text others
+among text others = list_any (λ other. bytes_eq other text) others
 
 -- a symbol that does not ascend from the one before it, or an originator that is there already
 abbrev pub list_disordered : List ListRow → ListRow → Bool

@@ -1,5 +1,6 @@
 -- The market of a practice day: its securities and its lines.
-use Rattle.std.specs.Prelude.{◌≡◌, ℕ, zero, suc, ◌≤◌, Bool, true, false, not, ◌&&◌, List, [], ◌∷◌, length, Some, None, Option, ◌==◌}
+use Rattle.std.specs.Prelude.{◌≡◌, ℕ, ◌≤◌, Bool, true, false, not, ◌&&◌, List, [], ◌∷◌, length, Some, None, Option, ◌==◌, slice_get}
+use Rattle.std.specs.List.{list_all}
 use Rattle.cuts.specs.Cut.{has}
 use Rattle.lists.specs.ListRows.{ascends, among}
 
@@ -14,13 +15,11 @@ distinct (text ∷ texts) = not (among text texts) && distinct texts
 
 -- every text has so many bytes
 abbrev pub all_long : ℕ → List (List ℕ) → Bool
-all_long size [] = true
-all_long size (text ∷ texts) = length text == size && all_long size texts
+all_long size texts = list_all (λ text. length text == size) texts
 
 -- no text has the byte
 abbrev pub none_has : ℕ → List (List ℕ) → Bool
-none_has byte [] = true
-none_has byte (text ∷ texts) = not (has byte text) && none_has byte texts
+none_has byte texts = list_all (λ text. not (has byte text)) texts
 
 -- the symbols of a market: 1 to 256, ascending, each of eleven bytes
 abbrev pub SymbolList : List (List ℕ) → Type 0
@@ -39,9 +38,7 @@ PlainOriginatorList originators = OriginatorList originators × (none_has 44 ori
 
 -- what stands at an index, if anything does
 abbrev pub at_index : List (List ℕ) → ℕ → Option (List ℕ)
-at_index [] index = None
-at_index (text ∷ texts) zero = Some text
-at_index (text ∷ texts) (suc index) = at_index texts index
+at_index texts index = slice_get texts index
 
 -- what is told has no comma
 abbrev pub Commaless : Option (List ℕ) → Type 0

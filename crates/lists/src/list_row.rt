@@ -1,8 +1,8 @@
 // The rows of a list sheet, `S,symbol` and `L,originator`.
 ghost use Rattle.std.specs.Prelude.{◌≡◌, length, None};
-ghost use Rattle.lists.specs.ListRows.{among, latest, line_row, lines, list_row, list_rules, securities, security_row};
+ghost use Rattle.lists.specs.ListRows.{among, latest, line_row, lines, list_row, list_rules, originator_in, securities, security_row, symbol_in};
 
-use cuts::cut::{field, is_same, only_byte};
+use cuts::cut::{field, only_byte};
 use sheets::fault::FieldFault;
 use sheets::field_layer::{check_count, originator_field, symbol_field};
 use sheets::row::SheetRow;
@@ -19,16 +19,14 @@ fn security_row(line: &[u8]) -> Result<ListRow, FieldFault>
     ensures { result ≡ security_row line.now }
 {
     check_count(line, 2)?;
-    let symbol = symbol_field(line, 2)?;
-    Ok(ListRow::Security(symbol))
+    symbol_field(line, 2).map(ListRow::Security)
 }
 
 fn line_row(line: &[u8]) -> Result<ListRow, FieldFault>
     ensures { result ≡ line_row line.now }
 {
     check_count(line, 2)?;
-    let originator = originator_field(line, 2)?;
-    Ok(ListRow::Line(originator))
+    originator_field(line, 2).map(ListRow::Line)
 }
 
 fn list_row(line: &[u8]) -> Result<ListRow, FieldFault>
@@ -41,49 +39,48 @@ fn list_row(line: &[u8]) -> Result<ListRow, FieldFault>
     }
 }
 
-// How many symbols and originators some rows have, and the last symbol among them.
-#[derive(Drop)]
-struct Census {
-    symbols: usize,
-    originators: usize,
-    last: Option<Symbol>,
-}
-
-fn count_rows(rows: &[ListRow]) -> Census
-    ensures symbols { result.symbols ≡ length (securities rows.now) }
-    ensures originators { result.originators ≡ length (lines rows.now) }
-    ensures last { result.last ≡ latest None (securities rows.now) }
-{
-    let mut symbols = 0;
-    let mut originators = 0;
-    let mut last = None;
-    for row in rows {
-        match row {
-            ListRow::Security(symbol) => {
-                symbols += 1;
-                last = Some(*symbol);
-            }
-            ListRow::Line(_) => originators += 1,
+impl ListRow {
+    fn symbol(&self) -> Option<Symbol>
+        ensures { result ≡ symbol_in self.now }
+    {
+        match self {
+            ListRow::Security(symbol) => Some(*symbol),
+            ListRow::Line(_) => None,
         }
     }
-    Census {
-        symbols,
-        originators,
-        last,
+
+    fn originator(&self) -> Option<[u8; 2]>
+        ensures { result ≡ originator_in self.now }
+    {
+        match self {
+            ListRow::Security(_) => None,
+            ListRow::Line(originator) => Some(*originator),
+        }
     }
 }
 
-fn has_originator(rows: &[ListRow], originator: &[u8]) -> bool
+fn symbol_count(rows: &[ListRow]) -> usize
+    ensures { result ≡ length (securities rows.now) }
+{
+    rows.iter().filter_map(|row| row.symbol()).count()
+}
+
+fn originator_count(rows: &[ListRow]) -> usize
+    ensures { result ≡ length (lines rows.now) }
+{
+    rows.iter().filter_map(|row| row.originator()).count()
+}
+
+fn last_symbol(rows: &[ListRow]) -> Option<Symbol>
+    ensures { result ≡ latest None (securities rows.now) }
+{
+    rows.iter().filter_map(|row| row.symbol()).last()
+}
+
+fn has_originator(rows: &[ListRow], originator: &[u8; 2]) -> bool
     ensures { result ≡ among originator.now (lines rows.now) }
 {
-    for row in rows {
-        if let ListRow::Line(other) = row {
-            if is_same(other, originator) {
-                return true;
-            }
-        }
-    }
-    false
+    rows.contains(&ListRow::Line(*originator))
 }
 
 impl SheetRow for ListRow {
@@ -95,7 +92,7 @@ impl SheetRow for ListRow {
 
     fn is_disordered(&self, before: &[ListRow]) -> bool {
         match self {
-            ListRow::Security(symbol) => match count_rows(before).last {
+            ListRow::Security(symbol) => match last_symbol(before) {
                 Some(last) => !precedes(&last, symbol),
                 None => false,
             },
@@ -104,15 +101,13 @@ impl SheetRow for ListRow {
     }
 
     fn is_beyond(&self, before: &[ListRow]) -> bool {
-        let count = count_rows(before);
         match self {
-            ListRow::Security(_) => count.symbols >= 256,
-            ListRow::Line(_) => count.originators >= 16,
+            ListRow::Security(_) => symbol_count(before) >= 256,
+            ListRow::Line(_) => originator_count(before) >= 16,
         }
     }
 
     fn are_whole(rows: &[ListRow]) -> bool {
-        let count = count_rows(rows);
-        count.symbols >= 1 && count.originators >= 1
+        symbol_count(rows) >= 1 && originator_count(rows) >= 1
     }
 }

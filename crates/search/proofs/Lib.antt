@@ -1,2 +1,2 @@
-pub mod Halves
+pub mod Found
 pub mod Order

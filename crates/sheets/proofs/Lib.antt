@@ -1,3 +1,4 @@
+pub mod Commas
 pub mod Formed
 pub mod Passed
 pub mod Sofar

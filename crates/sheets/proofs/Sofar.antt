@@ -49,10 +49,8 @@ stops {Row} rules slots seen rest f false h some e =
     ∙ ap (λ x. record { rows = seen; fault = Some x }) same
 
 -- one row more
-pub sofar_more : {Row : Type 0} {rules : Rules Row} {text rest : List ℕ} {before table : List Row} {n : ℕ} → Sofar rules text rest before table n → (row : Row) (left : List ℕ) → n < length table → left ≡ past 10 rest → has 10 rest ≡ true → (slots : ℕ) (seen : List Row) → slots ≡ length before → seen ≡ take n table → placed rules slots seen (row_in rules (next_line rest)) ≡ Ok row → Sofar rules text left before (set table n row) (n + 1)
-sofar_more {Row} {rules} {text} {rest} {before} {table} {n} s row left h l b slots seen p q e =
-    let said : placed rules (length before) (take n table) (row_in rules (next_line rest)) ≡ Ok row =
-    ap (λ u. placed rules u (take n table) (row_in rules (next_line rest))) (sym p) ∙ ap (λ u. placed rules slots u (row_in rules (next_line rest))) (sym q) ∙ e in
+pub sofar_more : {Row : Type 0} {rules : Rules Row} {text rest : List ℕ} {before table : List Row} {n : ℕ} → Sofar rules text rest before table n → (row : Row) (left : List ℕ) → n < length table → left ≡ past 10 rest → has 10 rest ≡ true → placed rules (length before) (take n table) (row_in rules (next_line rest)) ≡ Ok row → Sofar rules text left before (set table n row) (n + 1)
+sofar_more {Row} {rules} {text} {rest} {before} {table} {n} s row left h l b said =
     record {
       is = ap (λ u. reading rules (length before) (take (n + 1) (set table n row)) (parts 10 u)) l
           ∙ ap (λ u. reading rules (length before) u (parts 10 (past 10 rest))) (take_more_set table n row h)
@@ -79,10 +77,8 @@ ends {Row} {rules} {text} {rest} {before} {table} {n} s fault e =
     }
 
 -- at a fault of the next line
-pub ends_at : {Row : Type 0} {rules : Rules Row} {text rest : List ℕ} {before table : List Row} {n : ℕ} → Sofar rules text rest before table n → (f : SheetFault) → 0 < length rest → (slots : ℕ) (seen : List Row) → slots ≡ length before → seen ≡ take n table → placed rules slots seen (row_in rules (next_line rest)) ≡ Err f → Ends rules text before table n (Some f)
-ends_at {Row} {rules} {text} {rest} {before} {table} {n} s f some slots seen p q e =
-    let said : placed rules (length before) (take n table) (row_in rules (next_line rest)) ≡ Err f =
-    ap (λ u. placed rules u (take n table) (row_in rules (next_line rest))) (sym p) ∙ ap (λ u. placed rules slots u (row_in rules (next_line rest))) (sym q) ∙ e in
+pub ends_at : {Row : Type 0} {rules : Rules Row} {text rest : List ℕ} {before table : List Row} {n : ℕ} → Sofar rules text rest before table n → (f : SheetFault) → 0 < length rest → placed rules (length before) (take n table) (row_in rules (next_line rest)) ≡ Err f → Ends rules text before table n (Some f)
+ends_at {Row} {rules} {text} {rest} {before} {table} {n} s f some said =
     ends s (Some f) (stops rules (length before) (take n table) rest f (has 10 rest) refl some said)
 
 -- where no byte is left

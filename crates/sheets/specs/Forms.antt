@@ -1,5 +1,6 @@
 -- The forms of a line's fields.
-use Rattle.std.specs.Prelude.{ℕ, Bool, true, cond, ◌&&◌, List, [], ◌∷◌, length, Some, None, Ok, Err, Option, Result, ◌==◌, nat_le}
+use Rattle.std.specs.Prelude.{ℕ, Bool, cond, ◌&&◌, List, length, Some, None, Ok, Err, Option, Result, ◌==◌, nat_le}
+use Rattle.std.specs.List.{list_all}
 use Rattle.text.specs.Printable.{printable}
 use Rattle.text.specs.Symbol.{symbol_of}
 use Rattle.sheets.specs.declared.fault.FieldFault.{FieldFault}
@@ -37,14 +38,17 @@ digit_of Two = 50
 digit_of Three = 51
 digit_of Four = 52
 
-abbrev pub bucket_by : Option ℕ → Option Bucket
-bucket_by None = None
-bucket_by (Some b) =
+abbrev pub bucket_of : ℕ → Option Bucket
+bucket_of b =
     cond (b == digit_of One) (Some One)
     (cond (b == digit_of Two) (Some Two)
     (cond (b == digit_of Three) (Some Three)
     (cond (b == digit_of Four) (Some Four)
     None)))
+
+abbrev pub bucket_by : Option ℕ → Option Bucket
+bucket_by None = None
+bucket_by (Some b) = bucket_of b
 
 abbrev pub bucket_field : ℕ → List ℕ → Result Bucket FieldFault
 bucket_field number line = formed number (bucket_by (only_byte (field_of number line)))
@@ -54,8 +58,7 @@ abbrev pub visible : ℕ → Bool
 visible b = nat_le 33 b && nat_le b 126
 
 abbrev pub all_visible : List ℕ → Bool
-all_visible [] = true
-all_visible (b ∷ bs) = visible b && all_visible bs
+all_visible text = list_all visible text
 
 -- a symbol: 1 to 11 visible bytes
 abbrev pub symbol_by : List ℕ → Option (List ℕ)

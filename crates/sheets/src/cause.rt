@@ -14,10 +14,10 @@ pub enum Cause {
     Incomplete = 208,
 }
 
-impl Cause {
-    pub fn number(self) -> u16
-        ensures { result ≡ number_of self }
-    {
-        self as u16
+impl From<Cause> for u16 {
+    ghost from_gives = { λ cause number. number ≡ number_of cause };
+
+    fn from(cause: Cause) -> u16 {
+        cause as u16
     }
 }

@@ -1,6 +1,6 @@
 // The field layer: how many fields a line has, and the form of each.
 ghost use Rattle.std.specs.Prelude.{◌≡◌, Ok};
-ghost use Rattle.sheets.specs.Forms.{all_visible, bucket_field, counted, originator_field, printable_field, symbol_field, visible};
+ghost use Rattle.sheets.specs.Forms.{all_visible, bucket_field, counted, originator_field, printable_field, symbol_field};
 
 use crate::bucket::Bucket;
 use crate::fault::FieldFault;
@@ -21,40 +21,25 @@ pub fn check_count(line: &[u8], number: usize) -> Result<(), FieldFault>
 pub fn printable_field(line: &[u8], number: u8) -> Result<u8, FieldFault>
     ensures { result ≡ printable_field number line.now }
 {
-    match only_byte(field(line, number)) {
-        Some(byte) if is_printable(byte) => Ok(byte),
-        _ => Err(FieldFault::FieldForm(number)),
-    }
+    only_byte(field(line, number))
+        .filter(|byte| is_printable(*byte))
+        .ok_or(FieldFault::FieldForm(number))
 }
 
 // A field of one digit from 1 to 4.
 pub fn bucket_field(line: &[u8], number: u8) -> Result<Bucket, FieldFault>
     ensures { result ≡ bucket_field number line.now }
 {
-    match only_byte(field(line, number)) {
-        Some(b'1') => Ok(Bucket::One),
-        Some(b'2') => Ok(Bucket::Two),
-        Some(b'3') => Ok(Bucket::Three),
-        Some(b'4') => Ok(Bucket::Four),
-        _ => Err(FieldFault::FieldForm(number)),
-    }
+    only_byte(field(line, number))
+        .and_then(|digit| Bucket::try_from(digit).ok())
+        .ok_or(FieldFault::FieldForm(number))
 }
 
-fn is_visible(byte: u8) -> bool
-    ensures { result ≡ visible byte }
-{
-    byte > b' ' && byte <= b'~'
-}
-
+// Whether every byte can be seen: printable, and no space.
 fn all_visible(text: &[u8]) -> bool
     ensures { result ≡ all_visible text.now }
 {
-    for byte in text {
-        if !is_visible(*byte) {
-            return false;
-        }
-    }
-    true
+    text.iter().all(|byte| byte.is_ascii_graphic())
 }
 
 // A field of 1 to 11 visible bytes, as a symbol.
@@ -65,19 +50,15 @@ pub fn symbol_field(line: &[u8], number: u8) -> Result<Symbol, FieldFault>
     if !all_visible(text) {
         return Err(FieldFault::FieldForm(number));
     }
-    match padded(text) {
-        Some(symbol) => Ok(symbol),
-        None => Err(FieldFault::FieldForm(number)),
-    }
+    padded(text).ok_or(FieldFault::FieldForm(number))
 }
 
 // A field of 2 visible bytes.
 pub fn originator_field(line: &[u8], number: u8) -> Result<[u8; 2], FieldFault>
     ensures { result ≡ originator_field number line.now }
 {
-    let text = field(line, number);
-    if text.len() != 2 || !all_visible(text) {
-        return Err(FieldFault::FieldForm(number));
+    match field(line, number) {
+        text @ [first, second] if all_visible(text) => Ok([*first, *second]),
+        _ => Err(FieldFault::FieldForm(number)),
     }
-    Ok([text[0], text[1]])
 }

@@ -39,18 +39,17 @@ pub fn read<R: SheetRow>(text: &[u8], table: &mut [R]) -> Result<usize, Fault>
     ensures within { IfOk result (λ n. n ≤ length table.old) }
 {
     let mut rest = text;
+    let slots = table.len();
+    // Counted by hand: a row is judged by the slots before its own, so an iterator over the slots cannot hold the table.
     let mut count = 0;
     while !rest.is_empty() {
-        match next_placed(rest, &table[0..count], table.len()) {
-            Ok(row) => {
-                table[count] = row;
-                count += 1;
-                rest = after_first(rest, b'\n');
-            }
-            Err(fault) => return Err(fault.past_rows(count)),
-        }
+        let seen = &table[..count];
+        let row = next_placed(rest, seen, slots).map_err(|fault| fault.past_rows(count))?;
+        table[count] = row;
+        count += 1;
+        rest = after_first(rest, b'\n');
     }
-    if !R::are_whole(&table[0..count]) {
+    if !R::are_whole(&table[..count]) {
         return Err(SheetFault::Incomplete.past_rows(count));
     }
     Ok(count)

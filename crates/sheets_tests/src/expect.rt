@@ -18,7 +18,7 @@ pub(crate) fn tells(
     let Err(fault) = answer else {
         return Err(Fail::new("the sheet was passed"));
     };
-    assert_eq!(rt; fault.cause.number(), cause);
+    assert_eq!(rt; u16::from(fault.cause), cause);
     assert_eq!(rt; fault.layer, layer);
     assert_eq!(rt; fault.line, line);
     assert_eq!(rt; fault.field, field);
@@ -36,7 +36,7 @@ pub(crate) fn passes(
             Ok(())
         },
         Err(fault) => {
-            assert_eq!(rt; fault.cause.number(), 0);
+            assert_eq!(rt; u16::from(fault.cause), 0);
             Ok(())
         },
     }

@@ -1,59 +1,54 @@
-use Rattle.std.proofs.Common.{◌≡◌, ◌-◌, ◌<◌, true, false, length, take, Err, sym, ap, ◌∙◌, arith}
+use Rattle.std.proofs.Common.{◌≡◌, ℕ, ◌+◌, ◌<◌, true, false, length, Result, Ok, Err, MatchResult, IsErrAnd, sym, refl, ap, ◌∙◌, subst, rules, arith}
 use Rattle.std.proofs.lemmas.List.{length-take-le}
 use Rattle.std.proofs.lemmas.Bool.{eqb-true, eqb-false}
 use Rattle.cuts.proofs.Cuts.{past_shorter}
+use Rattle.sheets.specs.Told.{told_of}
 use Rattle.sheets.proofs.Sofar.{sofar_more, ends_at, ends_whole}
 use Rattle.sheets.proofs.reader.read.Goals as goal
 
+-- what a mapped outcome says of the one before
+ok_before : {T E D : Type 0} (Q : E → D → Type 0) (r : Result T E) (m : Result T D) (x : T) → MatchResult r (λ y. m ≡ Ok y) (λ e. IsErrAnd m (Q e)) → m ≡ Ok x → r ≡ Ok x
+ok_before Q (Ok y) m x met e = cc
+ok_before Q (Err f) (Ok y) x met e = absurd met
+ok_before Q (Err f) (Err d) x met e = cc
+
+err_before : {T E D : Type 0} (Q : E → D → Type 0) (r : Result T E) (m : Result T D) (d : D) → MatchResult r (λ y. m ≡ Ok y) (λ e. IsErrAnd m (Q e)) → m ≡ Err d → (f : E) × (r ≡ Err f) × Q f d
+err_before Q (Ok y) m d met e = let z : ◌≡◌ {A = ℕ} 0 1 = cc in absurd (omega arith)
+err_before Q (Err f) (Ok y) d met e = absurd met
+err_before Q (Err f) (Err g) d met e = let same : g ≡ d = cc in (f, refl, subst (Q f) same met)
+
 pub loop-rest-smaller : goal.loop-rest-smaller
 loop-rest-smaller g c =
-    omega (arith, past_shorter 10 c.loop-rest.rest.now c.in-Ok.ensures.ended.0, ap length c.after_first-rest.ensures)
+    let ok = ok_before _ c.next_placed.result c.map_err.result c.in_ok-row.row c.map_err.ensures.cases c.in_ok-row.was in
+    let w = rw ok at c.next_placed.ensures.ended in
+    omega (arith, past_shorter 10 c.loop-rest.rest.now w.0, ap length c.after_first-rest.ensures)
 
 pub loop-rest-preserved : goal.loop-rest-preserved
 loop-rest-preserved g c =
-    let n = c.loop-rest.count in
     let table = c.loop-rest.table in
-    let rest = c.loop-rest.rest.now in
     let s = c.loop-rest.invariant in
-    let z : n - 0 ≡ n = omega arith in
-    let w = c.in-Ok.ensures.ended in
-    let l : length (take (n - 0) table) ≡ n - 0 = length-take-le (n - 0) table (omega (arith, s.within)) in
-    let h : n < length table = omega (arith, w.1) in
-    sofar_more s c.in-Ok.row _ h c.after_first-rest.ensures w.0 (length table) (take (n - 0) table) s.long (ap (λ j. take j table) z) (sym c.in-Ok.ensures.value)
+    let ok = ok_before _ c.next_placed.result c.map_err.result c.in_ok-row.row c.map_err.ensures.cases c.in_ok-row.was in
+    let w = rw ok at c.next_placed.ensures.ended in
+    let h : c.loop-rest.count < length table = omega (arith, w.1, s.long, length-take-le c.loop-rest.count table s.within) in
+    sofar_more s c.in_ok-row.row _ h c.after_first-rest.ensures w.0 (sym c.next_placed.ensures.value ∙ ok)
 
-pub past_rows-requires : goal.past_rows-requires
-past_rows-requires g c = omega arith
-
-pub returns-in-Err : goal.returns-in-Err
-returns-in-Err g c =
-    let n = c.loop-rest.count in
-    let table = c.loop-rest.table in
-    let rest = c.loop-rest.rest.now in
-    let s = c.loop-rest.invariant in
-    let z : n - 0 ≡ n = omega arith in
-    let some : 0 < length rest = omega (arith, eqb-false (length rest) 0 (sym c.loop-rest-test.ensures)) in
-    let e = ends_at s c.in-Err.fault some (length table) (take (n - 0) table) s.long (ap (λ j. take j table) z) (sym c.in-Err.ensures.value) in
-    record { answer = ap (λ t. Err t) c.past_rows.ensures ∙ e.answer; rows = e.rows; within = tt }
-
-pub past_rows-requires-then-not-are_whole : goal.past_rows-requires-then-not-are_whole
-past_rows-requires-then-not-are_whole g c = omega arith
+pub returns-in_err-row : goal.returns-in_err-row
+returns-in_err-row g c =
+    let some : 0 < length c.loop-rest.rest.now = omega (arith, eqb-false (length c.loop-rest.rest.now) 0 (sym c.loop-rest-test.ensures)) in
+    let told : c.from_residual.result ≡ Err c.in_err-row.field-0.0 = search rules in
+    let err = err_before _ c.next_placed.result c.map_err.result c.in_err-row.field-0.0 c.map_err.ensures.cases c.in_err-row.was in
+    let e = ends_at c.loop-rest.invariant err.0 some (sym c.next_placed.ensures.value ∙ err.1) in
+    let line : c.in_err-row.field-0.0 ≡ told_of err.0 (c.loop-rest.count + 1) = search (rules, err.2) in
+    record { answer = told ∙ ap (λ t. Err t) line ∙ e.answer; rows = e.rows; within = rw told tt }
 
 pub returns-then-not-are_whole : goal.returns-then-not-are_whole
 returns-then-not-are_whole g c =
-    let n = c.loop-rest.count in
-    let table = c.loop-rest.table in
-    let rest = c.loop-rest.rest.now in
-    let z : n ≡ n - 0 = omega arith in
-    let none : length rest ≡ 0 = eqb-true (length rest) 0 (sym c.loop-rest-test.ensures) in
-    let e = ends_whole c.loop-rest.invariant none false (ap (λ j. g.R.SheetRow.rules.whole (take j table)) z ∙ sym c.if-not-are_whole.ensures) in
-    record { answer = ap (λ t. Err t) c.past_rows-then-not-are_whole.ensures ∙ e.answer; rows = e.rows; within = tt }
+    let none : length c.loop-rest.rest.now ≡ 0 = eqb-true (length c.loop-rest.rest.now) 0 (sym c.loop-rest-test.ensures) in
+    let e = ends_whole c.loop-rest.invariant none false (sym c.if-not-are_whole.ensures) in
+    record { answer = ap (λ t. Err t) c.past_rows.ensures ∙ e.answer; rows = e.rows; within = tt }
 
 pub returns : goal.returns
 returns g c =
-    let n = c.loop-rest.count in
-    let table = c.loop-rest.table in
-    let rest = c.loop-rest.rest.now in
-    let z : n ≡ n - 0 = omega arith in
-    let none : length rest ≡ 0 = eqb-true (length rest) 0 (sym c.loop-rest-test.ensures) in
-    let e = ends_whole c.loop-rest.invariant none true (ap (λ j. g.R.SheetRow.rules.whole (take j table)) z ∙ sym c.if-not-are_whole.ensures) in
+    let none : length c.loop-rest.rest.now ≡ 0 = eqb-true (length c.loop-rest.rest.now) 0 (sym c.loop-rest-test.ensures) in
+    let e = ends_whole c.loop-rest.invariant none true (sym c.if-not-are_whole.ensures) in
     record { answer = e.answer; rows = e.rows; within = omega (arith, c.loop-rest.invariant.within, c.loop-rest.invariant.long) }
