@@ -15,11 +15,7 @@ impl Phase {
     pub fn is_open(&self) -> bool
         ensures { result ≡ is_open self.now }
     {
-        match self {
-            Phase::Fresh => false,
-            Phase::Open => true,
-            Phase::Closed => false,
-        }
+        matches!(self, Phase::Open)
     }
 }
 

@@ -54,12 +54,15 @@ pub trait Kind: 'static {
     ghost headed: { 21 ≤ LENGTH };
 }
 
+// Asks the rows that every kind has.
+fn ask_shared<K: Kind>(frame: &[u8], context: &Context) -> Result<(), Verdict>
+    ensures { result ≡ judgement (first_failing (header_rows K.LETTERS K.LENGTH context.now frame.now)) tt }
+{
+    ask_header(frame, K::LETTERS, K::LENGTH, context)
+}
+
 // Asks the rows of a kind itself, from top to bottom.
-fn ask_own<K: Kind, B: CodeBook>(
-    frame: &[u8],
-    context: &Context,
-    book: &B,
-) -> Result<(), Verdict>
+fn ask_own<K: Kind, B: CodeBook>(frame: &[u8], context: &Context, book: &B) -> Result<(), Verdict>
     requires { length frame.now ≡ K.LENGTH }
     ensures { result ≡ judgement (first_failing (map (K.asked (B.CodeBook.sets book.now) context.now frame.now) K.order)) tt }
 {
@@ -77,7 +80,7 @@ pub fn walk<K: Kind, B: CodeBook>(
 ) -> Result<K::Fields, Verdict>
     ensures { result ≡ judgement (first_failing (header_rows K.LETTERS K.LENGTH context.now frame.now ++ map (K.asked (B.CodeBook.sets book.now) context.now frame.now) K.order)) (K.fields frame.now) }
 {
-    ask_header(frame, K::LETTERS, K::LENGTH, context)?;
+    ask_shared::<K>(frame, context)?;
     ask_own::<K, B>(frame, context, book)?;
     Ok(K::read(frame))
 }

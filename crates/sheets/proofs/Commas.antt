@@ -1,11 +1,13 @@
 -- No field of a line has a comma: commas part the fields.
 use Rattle.std.proofs.Common.{◌≡◌, ℕ, zero, suc, ◌-◌, Bool, true, false, cond, ◌||◌, eqb, List, [], ◌∷◌, get_or, refl, ap, ◌∙◌}
-use Rattle.cuts.specs.Cut.{field_of, has, in_front, parts}
+use Rattle.std.specs.List.{onto_first}
+use Rattle.cuts.specs.Cut.{field_of, has, parts}
 
-lack_by : (b : Bool) (sep x : ℕ) (ps : List (List ℕ)) (k : ℕ) → eqb x sep ≡ b → ((j : ℕ) → has sep (get_or ps j []) ≡ false) → has sep (get_or (cond b ([] ∷ ps) (in_front x ps)) k []) ≡ false
+lack_by : (b : Bool) (sep x : ℕ) (ps : List (List ℕ)) (k : ℕ) → eqb x sep ≡ b → ((j : ℕ) → has sep (get_or ps j []) ≡ false) → has sep (get_or (cond b ([] ∷ ps) (onto_first x ps)) k []) ≡ false
 lack_by true sep x ps zero e h = refl
 lack_by true sep x ps (suc k) e h = h k
-lack_by false sep x [] k e h = refl
+lack_by false sep x [] zero e h = ap (λ b. b || false) e
+lack_by false sep x [] (suc k) e h = refl
 lack_by false sep x (p ∷ ps) zero e h = ap (λ b. b || has sep p) e ∙ h 0
 lack_by false sep x (p ∷ ps) (suc k) e h = h (suc k)
 
