@@ -1,36 +1,46 @@
 // The parts of a mass trading action's frame that its rows look at.
 ghost use Rattle.std.specs.Prelude.{◌≡◌, length};
-ghost use Rattle.wire.specs.MassAction.{action_fields};
 
-use wire::number::read_u64;
+use wire::number::Number;
 
-pub(crate) fn first(frame: &[u8]) -> &[u8]
-    requires { length frame.now ≡ 60 }
-    ensures { result.now ≡ (action_fields frame.now).first }
-{
-    &frame[29..40]
+// A frame that is as long as a mass trading action.
+#[derive(Drop)]
+pub(crate) struct MassFrame<'a> {
+    bytes: &'a [u8],
+    ghost whole: { length bytes.now ≡ 60 },
 }
 
-pub(crate) fn last(frame: &[u8]) -> &[u8]
-    requires { length frame.now ≡ 60 }
-    ensures { result.now ≡ (action_fields frame.now).last }
-{
-    &frame[40..51]
-}
+impl<'a> MassFrame<'a> {
+    ghost use Rattle.wire.specs.MassAction.{action_fields};
 
-pub(crate) fn action(frame: &[u8]) -> u8
-    requires { length frame.now ≡ 60 }
-    ensures { result ≡ (action_fields frame.now).action }
-{
-    frame[51]
-}
+    pub(crate) fn new(bytes: &'a [u8]) -> MassFrame<'a>
+        requires { length bytes.now ≡ 60 }
+        ensures { result.bytes.now ≡ bytes.now }
+    {
+        MassFrame { bytes }
+    }
 
-pub(crate) fn action_time(frame: &[u8]) -> u64
-    requires { length frame.now ≡ 60 }
-    ensures { result ≡ (action_fields frame.now).action_time }
-{
-    match read_u64(&frame[52..60]) {
-        Some(time) => time,
-        None => unreachable(),
+    pub(crate) fn first(&self) -> &'a [u8]
+        ensures { result.now ≡ (action_fields self.now.bytes.now).first }
+    {
+        &self.bytes[29..40]
+    }
+
+    pub(crate) fn last(&self) -> &'a [u8]
+        ensures { result.now ≡ (action_fields self.now.bytes.now).last }
+    {
+        &self.bytes[40..51]
+    }
+
+    pub(crate) fn action(&self) -> u8
+        ensures { result ≡ (action_fields self.now.bytes.now).action }
+    {
+        self.bytes[51]
+    }
+
+    pub(crate) fn action_time(&self) -> u64
+        ensures { result ≡ (action_fields self.now.bytes.now).action_time }
+    {
+        u64::of_part(&self.bytes[52..60])
     }
 }

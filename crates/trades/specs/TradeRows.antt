@@ -1,7 +1,7 @@
 -- The rows of a trade report.
-use Rattle.std.specs.Prelude.{ℕ, Bool, cond, not, ◌&&◌, ◌||◌, List, [], ◌∷◌, ◌==◌, nat_le, slice_index}
+use Rattle.std.specs.Prelude.{ℕ, Bool, cond, not, ◌&&◌, List, [], ◌∷◌, map, ◌==◌, nat_le, slice_index}
 use Rattle.std.specs.Option.{is_some}
-use Rattle.books.specs.Sets.{Sets}
+use Rattle.books.specs.Sets.{in_some_bucket, Sets}
 use Rattle.cuts.specs.Cut.{has}
 use Rattle.rows.specs.Asked.{Asked, cut_unless, reject_unless}
 use Rattle.rows.specs.Context.{is_open}
@@ -10,11 +10,9 @@ use Rattle.sheets.specs.declared.bucket.Bucket.TheVariants.{One, Two, Three, Fou
 use Rattle.text.specs.Printable.{all_printable, printable}
 use Rattle.verdicts.specs.declared.code.Code.TheVariants as code
 use Rattle.verdicts.specs.declared.row.Row.TheVariants.{Trade}
+use Rattle.verdicts.specs.declared.row.TradeRow.{TradeRow}
 use Rattle.verdicts.specs.declared.row.TradeRow.TheVariants.{SymbolPrintable, SymbolListed, IdNotAbove, IdNotBelow, FlagPrintable, FlagAccepted, ConditionPrintable, ValuesAccepted, BucketsAccepted, FlagWithCondition, SellerDays, SidePrintable, SideAccepted, VolumeNotZero, DayOpen}
 use Rattle.wire.specs.TradeReport.{fields_of}
-
-abbrev pub in_some_bucket : Sets → ℕ → Bool
-in_some_bucket sets value = sets.values One value || (sets.values Two value || (sets.values Three value || sets.values Four value))
 
 -- a test of each of a condition's four bytes
 abbrev pub each_byte : (ℕ → Bool) → List ℕ → Bool
@@ -31,23 +29,29 @@ each_in_own_bucket sets condition =
 abbrev pub days_fit : List ℕ → ℕ → Bool
 days_fit condition days = cond (has 82 condition) (nat_le 2 days && nat_le days 60) (days == 0)
 
+-- what each row asks, and what the processor does otherwise
+abbrev pub trade_asked : Sets → Context → List ℕ → TradeRow → Asked
+trade_asked sets context frame SymbolPrintable = cut_unless (all_printable (fields_of frame).symbol) code.SecurityIdentifier (Trade SymbolPrintable)
+trade_asked sets context frame SymbolListed = reject_unless (is_some context.security) code.SecurityIdentifier (Trade SymbolListed)
+trade_asked sets context frame IdNotAbove = reject_unless (nat_le (fields_of frame).trade_id context.expected_trade_id) code.TradeId (Trade IdNotAbove)
+trade_asked sets context frame IdNotBelow = reject_unless (nat_le context.expected_trade_id (fields_of frame).trade_id) code.TradeId (Trade IdNotBelow)
+trade_asked sets context frame FlagPrintable = cut_unless (printable (fields_of frame).exempt_flag) code.ExemptFlag (Trade FlagPrintable)
+trade_asked sets context frame FlagAccepted = reject_unless (sets.flags (fields_of frame).exempt_flag) code.ExemptFlag (Trade FlagAccepted)
+trade_asked sets context frame ConditionPrintable = cut_unless (all_printable (fields_of frame).condition) code.SaleCondition (Trade ConditionPrintable)
+trade_asked sets context frame ValuesAccepted = reject_unless (each_byte (in_some_bucket sets) (fields_of frame).condition) code.SaleCondition (Trade ValuesAccepted)
+trade_asked sets context frame BucketsAccepted = reject_unless (each_in_own_bucket sets (fields_of frame).condition) code.SaleCondition (Trade BucketsAccepted)
+trade_asked sets context frame FlagWithCondition = reject_unless (sets.pairs (fields_of frame).exempt_flag (fields_of frame).condition) code.SaleCondition (Trade FlagWithCondition)
+trade_asked sets context frame SellerDays = reject_unless (days_fit (fields_of frame).condition (fields_of frame).seller_days) code.SellerDays (Trade SellerDays)
+trade_asked sets context frame SidePrintable = cut_unless (printable (fields_of frame).side) code.Side (Trade SidePrintable)
+trade_asked sets context frame SideAccepted = reject_unless (sets.sides (fields_of frame).side) code.Side (Trade SideAccepted)
+trade_asked sets context frame VolumeNotZero = reject_unless (not ((fields_of frame).volume == 0)) code.TradeVolume (Trade VolumeNotZero)
+trade_asked sets context frame DayOpen = reject_unless (is_open context.phase) code.NotOpen (Trade DayOpen)
+
 -- top to bottom
+abbrev pub trade_order : List TradeRow
+trade_order =
+    SymbolPrintable ∷ SymbolListed ∷ IdNotAbove ∷ IdNotBelow ∷ FlagPrintable ∷ FlagAccepted ∷ ConditionPrintable ∷ ValuesAccepted
+    ∷ BucketsAccepted ∷ FlagWithCondition ∷ SellerDays ∷ SidePrintable ∷ SideAccepted ∷ VolumeNotZero ∷ DayOpen ∷ []
+
 abbrev pub trade_rows : Sets → Context → List ℕ → List Asked
-trade_rows sets context frame =
-    let report = fields_of frame in
-    cut_unless (all_printable report.symbol) code.SecurityIdentifier (Trade SymbolPrintable)
-    ∷ reject_unless (is_some context.security) code.SecurityIdentifier (Trade SymbolListed)
-    ∷ reject_unless (nat_le report.trade_id context.expected_trade_id) code.TradeId (Trade IdNotAbove)
-    ∷ reject_unless (nat_le context.expected_trade_id report.trade_id) code.TradeId (Trade IdNotBelow)
-    ∷ cut_unless (printable report.exempt_flag) code.ExemptFlag (Trade FlagPrintable)
-    ∷ reject_unless (sets.flags report.exempt_flag) code.ExemptFlag (Trade FlagAccepted)
-    ∷ cut_unless (all_printable report.condition) code.SaleCondition (Trade ConditionPrintable)
-    ∷ reject_unless (each_byte (in_some_bucket sets) report.condition) code.SaleCondition (Trade ValuesAccepted)
-    ∷ reject_unless (each_in_own_bucket sets report.condition) code.SaleCondition (Trade BucketsAccepted)
-    ∷ reject_unless (sets.pairs report.exempt_flag report.condition) code.SaleCondition (Trade FlagWithCondition)
-    ∷ reject_unless (days_fit report.condition report.seller_days) code.SellerDays (Trade SellerDays)
-    ∷ cut_unless (printable report.side) code.Side (Trade SidePrintable)
-    ∷ reject_unless (sets.sides report.side) code.Side (Trade SideAccepted)
-    ∷ reject_unless (not (report.volume == 0)) code.TradeVolume (Trade VolumeNotZero)
-    ∷ reject_unless (is_open context.phase) code.NotOpen (Trade DayOpen)
-    ∷ []
+trade_rows sets context frame = map (trade_asked sets context frame) trade_order

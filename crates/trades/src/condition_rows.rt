@@ -1,28 +1,19 @@
 // What has to hold of a sale condition.
 ghost use Rattle.std.specs.Prelude.{◌≡◌, length};
-ghost use Rattle.trades.specs.TradeRows.{days_fit, each_byte, each_in_own_bucket, in_some_bucket};
+ghost use Rattle.books.specs.Sets.{in_some_bucket};
+ghost use Rattle.trades.specs.TradeRows.{days_fit, each_byte, each_in_own_bucket};
 
-use books::code_book::CodeBook;
+use books::code_book::{CodeBook, accepts_in_some_bucket};
 use cuts::cut::contains;
 use sheets::bucket::Bucket;
-
-fn is_in_some_bucket<B: CodeBook>(book: &B, value: u8) -> bool
-    ensures { result ≡ in_some_bucket (B.CodeBook.sets book.now) value }
-{
-    book.accepts_value(Bucket::One, value)
-        || book.accepts_value(Bucket::Two, value)
-        || book.accepts_value(Bucket::Three, value)
-        || book.accepts_value(Bucket::Four, value)
-}
 
 pub(crate) fn is_each_in_some_bucket<B: CodeBook>(book: &B, condition: &[u8]) -> bool
     requires { length condition.now ≡ 4 }
     ensures { result ≡ each_byte (in_some_bucket (B.CodeBook.sets book.now)) condition.now }
 {
-    is_in_some_bucket(book, condition[0])
-        && is_in_some_bucket(book, condition[1])
-        && is_in_some_bucket(book, condition[2])
-        && is_in_some_bucket(book, condition[3])
+    condition
+        .iter()
+        .all(|value| accepts_in_some_bucket(book, *value))
 }
 
 pub(crate) fn is_each_in_own_bucket<B: CodeBook>(book: &B, condition: &[u8]) -> bool
@@ -40,7 +31,7 @@ pub(crate) fn do_days_fit(condition: &[u8], days: u16) -> bool
     ensures { result ≡ days_fit condition.now days }
 {
     if contains(condition, b'R') {
-        days >= 2 && days <= 60
+        (2..=60).contains(&days)
     } else {
         days == 0
     }

@@ -1,11 +1,11 @@
 // The trade report as a kind of frame: TE, 72 bytes, fifteen rows.
 ghost use Rattle.std.specs.Prelude.{codes};
 ghost use Rattle.wire.specs.TradeReport.{fields_of};
-ghost use Rattle.trades.specs.TradeRows.{trade_rows};
+ghost use Rattle.trades.specs.TradeRows.{trade_asked, trade_order};
 ghost use Rattle.std.proofs.Common.{rules};
 
 use crate::condition_rows::{do_days_fit, is_each_in_own_bucket, is_each_in_some_bucket};
-use crate::frame_parts::{condition, exempt_flag, seller_days, side, symbol, trade_id, volume};
+use crate::frame_parts::TradeFrame;
 use books::code_book::CodeBook;
 use rows::asked::{cut_unless, reject_unless};
 use rows::context::Context;
@@ -16,7 +16,24 @@ use verdicts::code::Code;
 use verdicts::row::{Row, TradeRow};
 use wire::trade_report::TradeReport;
 
-const ROW_COUNT: usize = 15;
+// From top to bottom.
+const ROWS: &[TradeRow] = &[
+    TradeRow::SymbolPrintable,
+    TradeRow::SymbolListed,
+    TradeRow::IdNotAbove,
+    TradeRow::IdNotBelow,
+    TradeRow::FlagPrintable,
+    TradeRow::FlagAccepted,
+    TradeRow::ConditionPrintable,
+    TradeRow::ValuesAccepted,
+    TradeRow::BucketsAccepted,
+    TradeRow::FlagWithCondition,
+    TradeRow::SellerDays,
+    TradeRow::SidePrintable,
+    TradeRow::SideAccepted,
+    TradeRow::VolumeNotZero,
+    TradeRow::DayOpen,
+];
 
 pub struct Trade;
 
@@ -27,121 +44,103 @@ impl Kind for Trade {
 
     type Fields = TradeReport;
 
-    ghost letters = { codes "TE" };
+    type Row = TradeRow;
 
-    ghost size = { 72 };
+    ghost LETTERS = { codes "TE" };
+
+    ghost LENGTH = { 72 };
 
     ghost fields = { fields_of };
 
-    ghost count = { 15 };
+    ghost order = { trade_order };
 
-    ghost rows = { trade_rows };
-
-    ghost counted = { Prim.search rules };
+    ghost asked = { trade_asked };
 
     ghost headed = { Prim.search rules };
-
-    fn two_letters() -> [u8; 2] {
-        Self::LETTERS
-    }
-
-    fn frame_length() -> usize {
-        Self::LENGTH
-    }
-
-    fn row_count() -> usize {
-        ROW_COUNT
-    }
 
     fn read(frame: &[u8]) -> TradeReport {
         match TradeReport::read(frame) {
             Ok(report) => report,
-            Err(_) => unreachable(),
+            Err(_) => unreachable!(),
         }
     }
 
-    fn try_row<B: CodeBook>(
-        index: usize,
+    fn rows() -> &'static [TradeRow] {
+        ROWS
+    }
+
+    fn ask<B: CodeBook>(
+        row: TradeRow,
         frame: &[u8],
         context: &Context,
         book: &B,
-    ) -> Option<Verdict> {
-        match index {
-            0 => cut_unless(
-                all_printable(symbol(frame)),
+    ) -> Result<(), Verdict> {
+        let frame = TradeFrame::new(frame);
+        let named = Row::Trade(row);
+        match row {
+            TradeRow::SymbolPrintable => cut_unless(
+                all_printable(frame.symbol()),
                 Code::SecurityIdentifier,
-                Row::Trade(TradeRow::SymbolPrintable),
+                named,
             ),
-            1 => reject_unless(
+            TradeRow::SymbolListed => reject_unless(
                 context.security.is_some(),
                 Code::SecurityIdentifier,
-                Row::Trade(TradeRow::SymbolListed),
+                named,
             ),
-            2 => reject_unless(
-                trade_id(frame) <= context.expected_trade_id,
+            TradeRow::IdNotAbove => reject_unless(
+                frame.trade_id() <= context.expected_trade_id,
                 Code::TradeId,
-                Row::Trade(TradeRow::IdNotAbove),
+                named,
             ),
-            3 => reject_unless(
-                trade_id(frame) >= context.expected_trade_id,
+            TradeRow::IdNotBelow => reject_unless(
+                frame.trade_id() >= context.expected_trade_id,
                 Code::TradeId,
-                Row::Trade(TradeRow::IdNotBelow),
+                named,
             ),
-            4 => cut_unless(
-                is_printable(exempt_flag(frame)),
+            TradeRow::FlagPrintable => cut_unless(
+                is_printable(frame.exempt_flag()),
                 Code::ExemptFlag,
-                Row::Trade(TradeRow::FlagPrintable),
+                named,
             ),
-            5 => reject_unless(
-                book.accepts_flag(exempt_flag(frame)),
+            TradeRow::FlagAccepted => reject_unless(
+                book.accepts_flag(frame.exempt_flag()),
                 Code::ExemptFlag,
-                Row::Trade(TradeRow::FlagAccepted),
+                named,
             ),
-            6 => cut_unless(
-                all_printable(condition(frame)),
+            TradeRow::ConditionPrintable => cut_unless(
+                all_printable(frame.condition()),
                 Code::SaleCondition,
-                Row::Trade(TradeRow::ConditionPrintable),
+                named,
             ),
-            7 => reject_unless(
-                is_each_in_some_bucket(book, condition(frame)),
+            TradeRow::ValuesAccepted => reject_unless(
+                is_each_in_some_bucket(book, frame.condition()),
                 Code::SaleCondition,
-                Row::Trade(TradeRow::ValuesAccepted),
+                named,
             ),
-            8 => reject_unless(
-                is_each_in_own_bucket(book, condition(frame)),
+            TradeRow::BucketsAccepted => reject_unless(
+                is_each_in_own_bucket(book, frame.condition()),
                 Code::SaleCondition,
-                Row::Trade(TradeRow::BucketsAccepted),
+                named,
             ),
-            9 => reject_unless(
-                book.go_together(exempt_flag(frame), condition(frame)),
+            TradeRow::FlagWithCondition => reject_unless(
+                book.go_together(frame.exempt_flag(), frame.condition()),
                 Code::SaleCondition,
-                Row::Trade(TradeRow::FlagWithCondition),
+                named,
             ),
-            10 => reject_unless(
-                do_days_fit(condition(frame), seller_days(frame)),
+            TradeRow::SellerDays => reject_unless(
+                do_days_fit(frame.condition(), frame.seller_days()),
                 Code::SellerDays,
-                Row::Trade(TradeRow::SellerDays),
+                named,
             ),
-            11 => cut_unless(
-                is_printable(side(frame)),
+            TradeRow::SidePrintable => cut_unless(is_printable(frame.side()), Code::Side, named),
+            TradeRow::SideAccepted => reject_unless(
+                book.accepts_side(frame.side()),
                 Code::Side,
-                Row::Trade(TradeRow::SidePrintable),
+                named,
             ),
-            12 => reject_unless(
-                book.accepts_side(side(frame)),
-                Code::Side,
-                Row::Trade(TradeRow::SideAccepted),
-            ),
-            13 => reject_unless(
-                volume(frame) != 0,
-                Code::TradeVolume,
-                Row::Trade(TradeRow::VolumeNotZero),
-            ),
-            _ => reject_unless(
-                context.phase.is_open(),
-                Code::NotOpen,
-                Row::Trade(TradeRow::DayOpen),
-            ),
+            TradeRow::VolumeNotZero => reject_unless(frame.volume() != 0, Code::TradeVolume, named),
+            TradeRow::DayOpen => reject_unless(context.phase.is_open(), Code::NotOpen, named),
         }
     }
 }
