@@ -8,13 +8,7 @@ use crate::matrix::{Effects, Says, byte_effects};
 fn stronger(a: Says, b: Says) -> Says
     ensures { result ≡ beats a b }
 {
-    match (a, b) {
-        (Says::No, _) => Says::No,
-        (_, Says::No) => Says::No,
-        (Says::First, _) => Says::First,
-        (_, Says::First) => Says::First,
-        (Says::Yes, Says::Yes) => Says::Yes,
-    }
+    a.max(b)
 }
 
 fn combined(a: Effects, b: Effects) -> Effects
@@ -53,8 +47,6 @@ pub fn counts(condition: [u8; 4]) -> bool
     ensures bytes { result ≡ none_bars (slice_index condition 0) (slice_index condition 1) (slice_index condition 2) (slice_index condition 3) }
 {
     let [a, b, c, d] = condition;
-    match four_effects(a, b, c, d).volume {
-        Says::Yes | Says::First => true,
-        Says::No => false,
-    }
+    let said = four_effects(a, b, c, d);
+    said.volume != Says::No
 }
