@@ -28,7 +28,7 @@ impl MarketCenterRecord {
         MarketCenterRecord {
             next_trade_id: 1,
             quote_mark: QuoteMark::Welcome,
-            sheet: Sheet::empty().plain(),
+            sheet: PlainSheet::from(&Sheet::empty()),
         }
     }
 }

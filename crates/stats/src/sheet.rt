@@ -1,16 +1,19 @@
 // A sheet that is known to be sound.
 ghost use Rattle.std.specs.Prelude.{◌≡◌, true};
-ghost use Rattle.stats.specs.Spans.{spans};
+ghost use Rattle.stats.specs.Plain.{sound as is_sound};
+
+use crate::plain_sheet::PlainSheet;
 
 // A sheet with both a high and a low, the low not above the high, or with neither.
 #[derive(Drop)]
 pub struct Sheet<Last> {
-    high: Option<u64>,
-    low: Option<u64>,
-    last: Option<Last>,
-    volume: u64,
-    ghost sound: { spans high low ≡ true },
+    plain: PlainSheet<Last>,
+    ghost sound: { is_sound plain ≡ true },
 }
+
+// A plain record is not that of a sheet: it has a high or a low alone, or the low is above the high.
+#[derive(Clone, Copy, PartialEq, Eq, Debug)]
+pub struct Unsound;
 
 // A report is refused, since the volume would pass what a sheet can hold.
 #[derive(Clone, Copy, PartialEq, Eq, Debug)]

@@ -8,7 +8,7 @@ ghost use Rattle.stats.specs.Sheets.{plain_of};
 
 use crate::entry::{Enters, Entry};
 use crate::plain_sheet::PlainSheet;
-use crate::sheet::{Sheet, VolumeFull};
+use crate::sheet::{Sheet, Unsound, VolumeFull};
 use conditions::matrix::Says;
 
 // Whether there are both a high and a low, the low not above the high, or neither.
@@ -40,10 +40,12 @@ impl<Last: Copy> Sheet<Last> {
         ensures { plain_of result ≡ empty_sheet }
     {
         Sheet {
-            high: None,
-            low: None,
-            last: None,
-            volume: 0,
+            plain: PlainSheet {
+                high: None,
+                low: None,
+                last: None,
+                volume: 0,
+            },
         }
     }
 
@@ -71,41 +73,12 @@ impl<Last: Copy> Sheet<Last> {
         Ok(())
     }
 
-    // The sheet of a plain record, if that is sound.
-    pub fn check(plain: PlainSheet<Last>) -> Option<Sheet<Last>>
-        ensures { option_map plain_of result ≡ (if is_sound plain then Some plain else None) }
-    {
-        if is_span(plain.high, plain.low) {
-            Some(Sheet {
-                high: plain.high,
-                low: plain.low,
-                last: plain.last,
-                volume: plain.volume,
-            })
-        } else {
-            None
-        }
-    }
-
-    // The sheet as a plain record.
-    pub fn plain(&self) -> PlainSheet<Last>
-        ensures value { result ≡ plain_of self.now }
-        ensures sound { is_sound result ≡ true }
-    {
-        PlainSheet {
-            high: self.high,
-            low: self.low,
-            last: self.last,
-            volume: self.volume,
-        }
-    }
-
     // Enters a report, or alters nothing if the volume would pass 2^64 - 1.
     pub fn note<Report: Enters<Last>>(&mut self, report: Report) -> Result<(), VolumeFull>
-        ensures test { is_ok result ≡ nat_lt (self.old.volume + (Report.enter report).adds) (2 ^ 64) }
+        ensures test { is_ok result ≡ nat_lt ((plain_of self.old).volume + (Report.enter report).adds) (2 ^ 64) }
         ensures after { plain_of self.new ≡ (if is_ok result then noted (plain_of self.old) (Report.enter report) else plain_of self.old) }
-        ensures succeeds { self.old.volume ≤ 2 ^ 64 - 2 ^ 32 → is_ok result ≡ true }
-        ensures bound { self.new.volume ≤ self.old.volume + 4294967295 }
+        ensures succeeds { (plain_of self.old).volume ≤ 2 ^ 64 - 2 ^ 32 → is_ok result ≡ true }
+        ensures bound { (plain_of self.new).volume ≤ (plain_of self.old).volume + 4294967295 }
         ensures holds { is_ok result ≡ true → Noted Report.enter (plain_of self.old) report (plain_of self.new) }
     {
         self.put(report.entry())
@@ -113,28 +86,51 @@ impl<Last: Copy> Sheet<Last> {
 
     // The same with what the report enters. The volume comes first, so that a refusal leaves the sheet as it was.
     fn put(&mut self, entry: Entry<Last>) -> Result<(), VolumeFull>
-        ensures test { is_ok result ≡ nat_lt (self.old.volume + entry.adds) (2 ^ 64) }
+        ensures test { is_ok result ≡ nat_lt ((plain_of self.old).volume + entry.adds) (2 ^ 64) }
         ensures after { plain_of self.new ≡ (if is_ok result then noted (plain_of self.old) entry else plain_of self.old) }
-        ensures succeeds { self.old.volume ≤ 2 ^ 64 - 2 ^ 32 → is_ok result ≡ true }
-        ensures bound { self.new.volume ≤ self.old.volume + 4294967295 }
+        ensures succeeds { (plain_of self.old).volume ≤ 2 ^ 64 - 2 ^ 32 → is_ok result ≡ true }
+        ensures bound { (plain_of self.new).volume ≤ (plain_of self.old).volume + 4294967295 }
     {
-        let Some(volume) = self.volume.checked_add(entry.adds as u64) else {
+        let sheet = &mut self.plain;
+        let Some(volume) = sheet.volume.checked_add(entry.adds as u64) else {
             return Err(VolumeFull);
         };
-        self.volume = volume;
+        sheet.volume = volume;
         if let Some(price) = entry.spanned {
-            match (self.high, self.low) {
+            match (sheet.high, sheet.low) {
                 (Some(high), Some(low)) => {
-                    self.high = Some(high.max(price));
-                    self.low = Some(low.min(price));
+                    sheet.high = Some(high.max(price));
+                    sheet.low = Some(low.min(price));
                 }
                 _ => {
-                    self.high = Some(price);
-                    self.low = Some(price);
+                    sheet.high = Some(price);
+                    sheet.low = Some(price);
                 }
             }
         }
-        self.last = last_after(entry.says, self.last, entry.last);
+        sheet.last = last_after(entry.says, sheet.last, entry.last);
         Ok(())
+    }
+}
+
+impl<Last: Copy> TryFrom<PlainSheet<Last>> for Sheet<Last> {
+    type Error = Unsound;
+
+    ghost try_from_gives = { λ plain made. (is_ok made ≡ is_sound plain) × IfOk made (λ sheet. plain_of sheet ≡ plain) };
+
+    fn try_from(plain: PlainSheet<Last>) -> Result<Sheet<Last>, Unsound> {
+        if is_span(plain.high, plain.low) {
+            Ok(Sheet { plain })
+        } else {
+            Err(Unsound)
+        }
+    }
+}
+
+impl<Last: Copy> From<&Sheet<Last>> for PlainSheet<Last> {
+    ghost from_gives = { λ sheet plain. (plain ≡ plain_of sheet.now) × (is_sound plain ≡ true) };
+
+    fn from(sheet: &Sheet<Last>) -> PlainSheet<Last> {
+        sheet.plain
     }
 }
