@@ -2,8 +2,9 @@
 ghost use Rattle.std.specs.Prelude.{◌≡◌};
 ghost use Rattle.conditions.specs.Matrix.{row_of, row_lettered, in_columns, effects_in, byte_effects};
 
-// What a condition says to one of the statistics. `First` counts only where nothing stands yet.
-#[derive(Clone, Copy, PartialEq, Eq)]
+// What a condition says to one of the statistics, in the order of strength: what comes later beats what comes before.
+// `First` counts only where nothing stands yet.
+#[derive(Clone, Copy, PartialEq, Eq, PartialOrd, Ord, Debug)]
 pub enum Says {
     Yes,
     First,
@@ -11,7 +12,7 @@ pub enum Says {
 }
 
 // What a condition byte, or a whole condition, says to each of the statistics.
-#[derive(Clone, Copy, PartialEq, Eq)]
+#[derive(Clone, Copy, PartialEq, Eq, Debug)]
 pub struct Effects {
     pub consolidated_high_low: Says,
     pub consolidated_last: Says,
@@ -21,7 +22,7 @@ pub struct Effects {
 }
 
 // The rows of the matrix. Bytes of one row have the same effects.
-#[derive(Clone, Copy)]
+#[derive(Clone, Copy, PartialEq, Eq, Debug)]
 pub enum Row {
     // counts everywhere
     Regular,
@@ -58,6 +59,7 @@ const ROW_LETTERS: &[u8; 256] = b"\
     ................\
     ................";
 
+// No `From<u8>`: a condition byte has a row, too, by `row_of`.
 fn row_lettered(letter: u8) -> Row
     ensures { result ≡ row_lettered letter }
 {

@@ -8,7 +8,7 @@ use conditions::condition::{counts, effects};
 use conditions::matrix::Says;
 
 // What one sale enters on a sheet. `Last` is what that kind of sheet holds of the last sale.
-#[derive(Clone, Copy)]
+#[derive(Clone, Copy, PartialEq, Eq, Debug)]
 pub struct Entry<Last> {
     // the price that the high and the low span, if the condition says Yes to them
     pub spanned: Option<u64>,
@@ -19,7 +19,8 @@ pub struct Entry<Last> {
     pub adds: u32,
 }
 
-// A report that can be entered on the sheets whose last is a `Last`.
+// A report that can be entered on the sheets whose last is a `Last`. Not `Into`, whose contract is a relation: the laws add up
+// what `enter` makes of each report.
 pub trait Enters<Last> {
     ghost enter: { Self → Entry Last };
 
@@ -30,10 +31,7 @@ pub trait Enters<Last> {
 fn spanned_price(says: Says, price: u64) -> Option<u64>
     ensures { result ≡ spanned_by says price }
 {
-    match says {
-        Says::Yes => Some(price),
-        Says::First | Says::No => None,
-    }
+    (says == Says::Yes).then_some(price)
 }
 
 fn added(sale: Sale) -> u32
@@ -46,7 +44,8 @@ fn added(sale: Sale) -> u32
     }
 }
 
-// A sale is entered on its market center's sheet.
+// A sale is entered on its market center's sheet. The two impls stay apart: one function of their columns would have four
+// arguments by place, and here each stands beside its field.
 impl Enters<u64> for Sale {
     ghost enter = { center_entry };
 
