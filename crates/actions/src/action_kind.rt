@@ -1,10 +1,10 @@
 // The market center mass trading action as a kind of frame: AU, 60 bytes, six rows.
 ghost use Rattle.std.specs.Prelude.{◌≡◌, codes};
-ghost use Rattle.actions.specs.ActionRows.{action_rows, in_day};
+ghost use Rattle.actions.specs.ActionRows.{action_asked, action_order, in_day};
 ghost use Rattle.wire.specs.MassAction.{action_fields};
 ghost use Rattle.std.proofs.Common.{rules};
 
-use crate::frame_parts::{action, action_time, first, last};
+use crate::frame_parts::MassFrame;
 use books::code_book::CodeBook;
 use marks::trading_action::TradingAction;
 use rows::asked::{cut_unless, reject_unless};
@@ -16,7 +16,15 @@ use verdicts::code::Code;
 use verdicts::row::{MassActionRow, Row};
 use wire::mass_action::MassAction;
 
-const ROW_COUNT: usize = 6;
+// From top to bottom.
+const ROWS: &[MassActionRow] = &[
+    MassActionRow::FirstPrintable,
+    MassActionRow::LastPrintable,
+    MassActionRow::ActionPrintable,
+    MassActionRow::ActionAccepted,
+    MassActionRow::TimeInDay,
+    MassActionRow::DayOpen,
+];
 
 pub struct Mass;
 
@@ -34,76 +42,66 @@ impl Kind for Mass {
 
     type Fields = MassAction;
 
-    ghost letters = { codes "AU" };
+    type Row = MassActionRow;
 
-    ghost size = { 60 };
+    ghost LETTERS = { codes "AU" };
+
+    ghost LENGTH = { 60 };
 
     ghost fields = { action_fields };
 
-    ghost count = { 6 };
+    ghost order = { action_order };
 
-    ghost rows = { action_rows };
-
-    ghost counted = { Prim.search rules };
+    ghost asked = { action_asked };
 
     ghost headed = { Prim.search rules };
-
-    fn two_letters() -> [u8; 2] {
-        Self::LETTERS
-    }
-
-    fn frame_length() -> usize {
-        Self::LENGTH
-    }
-
-    fn row_count() -> usize {
-        ROW_COUNT
-    }
 
     fn read(frame: &[u8]) -> MassAction {
         match MassAction::read(frame) {
             Ok(action) => action,
-            Err(_) => unreachable(),
+            Err(_) => unreachable!(),
         }
     }
 
-    fn try_row<B: CodeBook>(
-        index: usize,
+    fn rows() -> &'static [MassActionRow] {
+        ROWS
+    }
+
+    fn ask<B: CodeBook>(
+        row: MassActionRow,
         frame: &[u8],
         context: &Context,
-        book: &B,
-    ) -> Option<Verdict> {
-        match index {
-            0 => cut_unless(
-                all_printable(first(frame)),
+        _book: &B,
+    ) -> Result<(), Verdict> {
+        let frame = MassFrame::new(frame);
+        let named = Row::MassAction(row);
+        match row {
+            MassActionRow::FirstPrintable => cut_unless(
+                all_printable(frame.first()),
                 Code::SecurityIdentifier,
-                Row::MassAction(MassActionRow::FirstPrintable),
+                named,
             ),
-            1 => cut_unless(
-                all_printable(last(frame)),
+            MassActionRow::LastPrintable => cut_unless(
+                all_printable(frame.last()),
                 Code::SecurityIdentifier,
-                Row::MassAction(MassActionRow::LastPrintable),
+                named,
             ),
-            2 => cut_unless(
-                is_printable(action(frame)),
+            MassActionRow::ActionPrintable => cut_unless(
+                is_printable(frame.action()),
                 Code::TradingAction,
-                Row::MassAction(MassActionRow::ActionPrintable),
+                named,
             ),
-            3 => reject_unless(
-                TradingAction::try_from(action(frame)).is_ok(),
+            MassActionRow::ActionAccepted => reject_unless(
+                TradingAction::try_from(frame.action()).is_ok(),
                 Code::TradingAction,
-                Row::MassAction(MassActionRow::ActionAccepted),
+                named,
             ),
-            4 => reject_unless(
-                is_in_day(action_time(frame), context),
+            MassActionRow::TimeInDay => reject_unless(
+                is_in_day(frame.action_time(), context),
                 Code::ActionTime,
-                Row::MassAction(MassActionRow::TimeInDay),
+                named,
             ),
-            _ => reject_unless(
-                context.phase.is_open(),
-                Code::NotOpen,
-                Row::MassAction(MassActionRow::DayOpen),
-            ),
+            MassActionRow::DayOpen => reject_unless(context.phase.is_open(), Code::NotOpen, named),
         }
     }
 }
