@@ -27,11 +27,3 @@ pub unknown_cut : (sets : Sets) (context : Context) (frame : List ℕ) → names
 unfolding judged
 unknown_cut sets context frame trade mass =
     ap (λ b. cond b (as_mass (judged_mass sets context frame)) (as_trade (judged_trade sets context frame))) mass ∙ cut_by (leb 3 (length frame)) (eqb (get_or frame 0 0) 49) (eqb (get_or frame 1 0) 84 && eqb (get_or frame 2 0) 69) _ _ trade
-
-pub judged_mass_lem : (sets : Sets) (context : Context) (frame : List ℕ) → names (codes "AU") frame ≡ true → judged sets context frame ≡ as_mass (judged_mass sets context frame)
-unfolding judged
-judged_mass_lem sets context frame e = ap (λ b. cond b (as_mass (judged_mass sets context frame)) (as_trade (judged_trade sets context frame))) e
-
-pub judged_trade_lem : (sets : Sets) (context : Context) (frame : List ℕ) → names (codes "AU") frame ≡ false → judged sets context frame ≡ as_trade (judged_trade sets context frame)
-unfolding judged
-judged_trade_lem sets context frame e = ap (λ b. cond b (as_mass (judged_mass sets context frame)) (as_trade (judged_trade sets context frame))) e

@@ -61,7 +61,7 @@ pub(crate) const SHEET: &[u8] =
 pub(crate) fn judged_by<B: CodeBook>(book: &B, frame: &[u8], context: &Context) -> Told {
     let answer = match judge(frame, context, book) {
         Ok(_) => Answer::Taken(0),
-        Err(verdict) => Answer::Failed(verdict),
+        Err(verdict) => Answer::from(verdict),
     };
     Told {
         letter: answer.letter(),
