@@ -4,7 +4,7 @@ ghost use Rattle.states.specs.LineStatus.{fresh_line};
 
 use verdicts::answer::Reason;
 
-#[derive(Clone, Copy)]
+#[derive(Clone, Copy, PartialEq, Eq, Debug)]
 pub struct LineStatus {
     pub logged_in: bool,
     // why the line was cut, from then on until it hangs up

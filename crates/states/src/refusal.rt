@@ -2,7 +2,7 @@
 ghost use Rattle.std.specs.Prelude.{◌≡◌};
 ghost use Rattle.states.specs.Refusal.{refusal_number};
 
-#[derive(Clone, Copy, PartialEq, Eq)]
+#[derive(Clone, Copy, PartialEq, Eq, Debug)]
 pub enum Refusal {
     NoSuchLine,
     AlreadyLoggedIn,
@@ -22,11 +22,12 @@ pub enum Refusal {
     TooFewRecords,
 }
 
-impl Refusal {
-    pub fn number(&self) -> u16
-        ensures { result ≡ refusal_number self.now }
-    {
-        match self {
+// A refusal's number, as the calls tell it.
+impl From<Refusal> for u16 {
+    ghost from_gives = { λ refusal number. number ≡ refusal_number refusal };
+
+    fn from(refusal: Refusal) -> u16 {
+        match refusal {
             Refusal::NoSuchLine => 1,
             Refusal::AlreadyLoggedIn => 2,
             Refusal::NotLoggedIn => 3,

@@ -5,7 +5,7 @@ ghost use Rattle.states.specs.SecurityStatus.{fresh_security, leads_to};
 use inquiry::security_state::SecurityState;
 
 // What the operator may post on a security.
-#[derive(Clone, Copy, PartialEq, Eq)]
+#[derive(Clone, Copy, PartialEq, Eq, Debug)]
 pub enum PostedAction {
     Halt,
     Pause,
@@ -13,7 +13,7 @@ pub enum PostedAction {
     Trade,
 }
 
-#[derive(Clone, Copy)]
+#[derive(Clone, Copy, PartialEq, Eq, Debug)]
 pub struct SecurityStatus {
     pub state: SecurityState,
     // how many actions were posted on it
