@@ -1,5 +1,5 @@
 // The standard code book against the published tables of sides, exempt codes and trade conditions.
-use books::code_book::{CodeBook, accepts_anywhere};
+use books::code_book::{CodeBook, accepts_anywhere, accepts_in_some_bucket};
 use books::standard_book::StandardBook;
 use sheets::bucket::Bucket;
 
@@ -20,29 +20,30 @@ const DETAILS: [u8; 17] = [
 
 const REASONS_NOT_EXEMPT: [u8; 4] = [b'O', b'5', b'6', b' '];
 
-fn has(table: &[u8], byte: u8) -> bool {
-    for other in table {
-        if *other == byte {
-            return true;
-        }
-    }
-    false
-}
-
 #[test]
 fn every_byte_of_every_set(rt: HostRuntime) {
     let book = StandardBook;
     for byte in 0..=255u8 {
-        assert_eq!(rt; book.accepts_flag(byte), has(&FLAGS, byte));
-        assert_eq!(rt; book.accepts_side(byte), has(&SIDES, byte));
+        assert_eq!(rt; book.accepts_flag(byte), FLAGS.contains(&byte));
+        assert_eq!(rt; book.accepts_side(byte), SIDES.contains(&byte));
         assert_eq!(rt;
             book.accepts_value(Bucket::One, byte),
-            has(&SETTLEMENTS, byte)
+            SETTLEMENTS.contains(&byte)
         );
-        assert_eq!(rt; book.accepts_value(Bucket::Two, byte), has(&REASONS, byte));
-        assert_eq!(rt; book.accepts_value(Bucket::Three, byte), has(&HOURS, byte));
-        assert_eq!(rt; book.accepts_value(Bucket::Four, byte), has(&DETAILS, byte));
+        assert_eq!(rt;
+            book.accepts_value(Bucket::Two, byte),
+            REASONS.contains(&byte)
+        );
+        assert_eq!(rt;
+            book.accepts_value(Bucket::Three, byte),
+            HOURS.contains(&byte)
+        );
+        assert_eq!(rt;
+            book.accepts_value(Bucket::Four, byte),
+            DETAILS.contains(&byte)
+        );
     }
+    assert!(rt; accepts_in_some_bucket(&book, b'W') && !accepts_in_some_bucket(&book, b'_'));
     assert!(rt; !accepts_anywhere(&book, b','));
 }
 
@@ -52,11 +53,11 @@ fn every_second_byte_beside_each_flag(rt: HostRuntime) {
     for byte in 0..=255u8 {
         assert_eq!(rt;
             book.go_together(b'X', &[b'@', byte, b' ', b' ']),
-            has(&REASONS, byte)
+            REASONS.contains(&byte)
         );
         assert_eq!(rt;
             book.go_together(b' ', &[b'@', byte, b' ', b' ']),
-            has(&REASONS_NOT_EXEMPT, byte)
+            REASONS_NOT_EXEMPT.contains(&byte)
         );
         assert!(rt; !book.go_together(b'B', &[b'@', byte, b' ', b' ']));
         assert!(rt; !book.go_together(byte, b"@F ") && !book.go_together(byte, b"@F   "));
@@ -70,15 +71,15 @@ fn every_byte_at_the_other_places(rt: HostRuntime) {
         for byte in 0..=255u8 {
             assert_eq!(rt;
                 book.go_together(flag, &[byte, b'O', b' ', b' ']),
-                has(&SETTLEMENTS, byte)
+                SETTLEMENTS.contains(&byte)
             );
             assert_eq!(rt;
                 book.go_together(flag, &[b'@', b'O', byte, b' ']),
-                has(&HOURS, byte)
+                HOURS.contains(&byte)
             );
             assert_eq!(rt;
                 book.go_together(flag, &[b'@', b'O', b' ', byte]),
-                has(&DETAILS, byte)
+                DETAILS.contains(&byte)
             );
         }
     }

@@ -1,5 +1,5 @@
 -- What searches among rows and texts find.
-use Rattle.std.proofs.Common.{◌≡◌, ℕ, Bool, false, ◌||◌, ltb, List, [], ◌∷◌, get_or, length, map, IfSome, Some, None, Option, is_some, Bor, sym, refl, ap, ◌∙◌}
+use Rattle.std.proofs.Common.{◌≡◌, ℕ, Bool, true, false, ◌||◌, ltb, List, [], ◌∷◌, get_or, length, map, IfSome, Some, None, Option, is_some, Bor, sym, refl, ap, subst, ◌∙◌}
 use Rattle.std.specs.List.{last_or, list_any}
 use Rattle.std.specs.Iterator.{Drains}
 use Rattle.std.specs.Option.{option_copied}
@@ -11,7 +11,8 @@ use Rattle.std.proofs.lemmas.Option.{slice_get_past, slice_get_read}
 use Rattle.lists.specs.declared.list_row.ListRow.{ListRow}
 use Rattle.lists.specs.declared.list_row.ListRow.TheVariants.{Security, Line}
 use Rattle.lists.specs.ListRows.{among, lines}
-use Rattle.lists.specs.Market.{at_index}
+use Rattle.lists.specs.Market.{at_index, Commaless, none_has}
+use Rattle.lists.proofs.Commas.{at_plain}
 
 -- an originator's row is found exactly where its originator is
 pub line_found : (found : ListRow → Bool) (originator : List ℕ) → ((symbol : List ℕ) → found (Security symbol) ≡ false) → ((other : List ℕ) → found (Line other) ≡ bytes_eq other originator) → (rows : List ListRow) → list_any found rows ≡ among originator (lines rows)
@@ -30,6 +31,10 @@ last_from_yields_list {steps = steps} {all = all} s r h e =
     h.2 ∙ ap (last_or None) (sym (map_itself h.0) ∙ gives_Drains steps (λ x. x) h.0 all s e.runs h.1)
 
 -- a look-up by index
-pub looked_up : (xs : List (List ℕ)) (i : ℕ) (r : Option (Bor (List ℕ))) → is_some r ≡ ltb i (length xs) → IfSome r (λ x. x.now ≡ get_or xs i x.now) → option_copied r ≡ at_index xs i
+looked_up : (xs : List (List ℕ)) (i : ℕ) (r : Option (Bor (List ℕ))) → is_some r ≡ ltb i (length xs) → IfSome r (λ x. x.now ≡ get_or xs i x.now) → option_copied r ≡ at_index xs i
 looked_up xs i None known item = sym (slice_get_past xs i (ltb-false i (length xs) (sym known)))
 looked_up xs i (Some x) known item = sym (slice_get_read xs (length xs) i x.now refl (ltb-true i (length xs) (sym known)) item)
+
+-- tells no comma where no text has one
+pub plain_up : (xs : List (List ℕ)) (i : ℕ) (r : Option (Bor (List ℕ))) → is_some r ≡ ltb i (length xs) → IfSome r (λ x. x.now ≡ get_or xs i x.now) → none_has 44 xs ≡ true → Commaless (option_copied r)
+plain_up xs i r known item none = subst Commaless (sym (looked_up xs i r known item)) (at_plain xs i none)

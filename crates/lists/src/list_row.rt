@@ -1,6 +1,6 @@
 // The rows of a list sheet, `S,symbol` and `L,originator`.
 ghost use Rattle.std.specs.Prelude.{◌≡◌, length, None};
-ghost use Rattle.lists.specs.ListRows.{among, latest, line_row, lines, list_row, list_rules, originator_in, securities, security_row, symbol_in};
+ghost use Rattle.lists.specs.ListRows.{latest, line_row, lines, list_row, list_rules, originator_in, securities, security_row, symbol_in};
 
 use cuts::cut::{field, only_byte};
 use sheets::fault::FieldFault;
@@ -77,12 +77,6 @@ fn last_symbol(rows: &[ListRow]) -> Option<Symbol>
     rows.iter().filter_map(|row| row.symbol()).last()
 }
 
-fn has_originator(rows: &[ListRow], originator: &[u8; 2]) -> bool
-    ensures { result ≡ among originator.now (lines rows.now) }
-{
-    rows.contains(&ListRow::Line(*originator))
-}
-
 impl SheetRow for ListRow {
     ghost rules = { list_rules };
 
@@ -96,7 +90,7 @@ impl SheetRow for ListRow {
                 Some(last) => !precedes(&last, symbol),
                 None => false,
             },
-            ListRow::Line(originator) => has_originator(before, originator),
+            ListRow::Line(_) => before.contains(self),
         }
     }
 

@@ -53,7 +53,8 @@ pub enum Layer {
     Sheet,
 }
 
-// What a caller is told of a fault. Lines and fields are counted from 1; the field is 0 where the fault is of no one field.
+// What a caller is told of a fault. Lines and fields are counted from 1; the field is 0 where the fault is of no one field: a number
+// and no `Option`, since the table of faults gives the 0 as the number that is told.
 #[derive(Clone, Copy, PartialEq, Eq, Debug)]
 pub struct Fault {
     pub layer: Layer,

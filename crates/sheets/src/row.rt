@@ -4,6 +4,7 @@ ghost use Rattle.sheets.specs.Layers.{Rules};
 
 use crate::fault::FieldFault;
 
+// Its methods are tests, as the rules are; the reader knows which fault each of them means.
 pub trait SheetRow: Copy {
     ghost rules: { Rules Self };
 

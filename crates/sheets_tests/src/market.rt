@@ -79,11 +79,13 @@ fn a_market_list_has_its_securities_and_lines_in_order(rt: HostRuntime) -> Resul
         Ok(count) => {
             let market = MarketList::of_rows(&table[0..count]);
             assert_eq!(rt; market.security_count(), 3);
+            assert_eq!(rt; market.symbols().len(), 3);
             assert_eq!(rt; market.symbol(0), Some(*b"A          "));
             assert_eq!(rt; market.symbol(1), Some(*b"AB         "));
             assert_eq!(rt; market.symbol(2), Some(*b"B          "));
             assert_eq!(rt; market.symbol(3), None);
             assert_eq!(rt; market.line_count(), 2);
+            assert_eq!(rt; market.originators().len(), 2);
             assert_eq!(rt; market.originator(0), Some(*b"zz"));
             assert_eq!(rt; market.originator(1), Some(*b"aa"));
             assert_eq!(rt; market.originator(2), None);

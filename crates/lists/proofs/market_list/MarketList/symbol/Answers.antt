@@ -1,14 +1,10 @@
 use Rattle.std.proofs.Common.{◌∙◌, sym, ap, subst}
-use Rattle.lists.specs.Listed.{securities_of}
-use Rattle.lists.specs.Market.{at_index, Commaless}
-use Rattle.lists.proofs.Commas.{at_plain}
-use Rattle.lists.proofs.Searched.{looked_up}
+use Rattle.lists.specs.Market.{Commaless, none_has}
+use Rattle.lists.proofs.Searched.{plain_up}
 use Rattle.lists.proofs.market_list.MarketList.symbol.Goals as goal
 
 pub returns-clause-plain : goal.returns-clause-plain
 returns-clause-plain c =
-    let i = c.args.security in
-    let market = c.args.self.now in
     let found = c.get.ensures.lookup in
-    let value = c.copied.ensures ∙ looked_up c.symbols.result.now i c.get.result found.0 found.1 ∙ ap (λ u. at_index u i) c.symbols.ensures in
-    subst Commaless (sym value) (at_plain (securities_of market) i market.plain.0)
+    let plain = plain_up c.symbols.result.now _ c.get.result found.0 found.1 (ap (none_has 44) c.symbols.ensures ∙ c.args.self.now.plain.0) in
+    subst Commaless (sym c.copied.ensures) plain
