@@ -15,14 +15,7 @@ pub fn sheet_after<Last: Copy, Report: Enters<Last> + Copy>(
     ensures value { result ≡ noted_if plain (Report.enter report) }
     ensures kept { IfSome result (λ s. sound s ≡ true) }
 {
-    match Sheet::check(plain) {
-        Some(sheet) => {
-            let mut sheet = sheet;
-            match sheet.note(report) {
-                Ok(()) => Some(sheet.plain()),
-                Err(_) => None,
-            }
-        }
-        None => None,
-    }
+    let mut sheet = Sheet::try_from(plain).ok()?;
+    sheet.note(report).ok()?;
+    Some(PlainSheet::from(&sheet))
 }

@@ -1,11 +1,10 @@
 -- One more report on a sheet, and reports in another order.
-use Rattle.std.proofs.Common.{◌≡◌, ℕ, Bool, true, false, cond, List, [], ◌∷◌, ◌++◌, Some, None, Option, sym, refl, ap, ◌∙◌, arith}
+use Rattle.std.proofs.Common.{◌≡◌, List, [], ◌∷◌, ◌++◌, Some, None, Option, sym, refl, ap, ◌∙◌}
 use Rattle.stats.specs.declared.entry.Entry.{Entry}
 use Rattle.conditions.specs.declared.matrix.Says.{Says}
 use Rattle.conditions.specs.declared.matrix.Says.TheVariants.{Yes, First, No}
-use Rattle.stats.specs.declared.plain_sheet.PlainSheet.{PlainSheet}
 use Rattle.stats.specs.Plain.{or_else, last_after, noted}
-use Rattle.stats.specs.Reports.{if_yes, if_first, latest_yes, earliest_first, sheet_of, Noted, Unordered}
+use Rattle.stats.specs.Reports.{if_yes, if_first, latest_yes, earliest_first, sheet_of, Unordered}
 use Rattle.stats.proofs.Joins.{sums, highs, lows, joined-push, joined-shuffled}
 
 or_else_none : {X : Type 0} (a : Option X) → or_else a None ≡ a
@@ -49,14 +48,6 @@ module _ {R L : Type 0} (enter : R → Entry L) where
       let v = joined-push sums (λ q. (enter q).adds) rs r in
       let p = last-push rs r in
       λ i. record { high = h i; low = l i; last = p i; volume = v i }
-
-  pub noting : (s : PlainSheet L) (r : R) → Noted enter s r (noted s (enter r))
-  noting s r rs e = ap (λ t. noted t (enter r)) e ∙ sym (sheet-push rs r)
-
-  -- as a call that may refuse leaves the sheet
-  pub noting-if : (b : Bool) (s t : PlainSheet L) (r : R) → t ≡ cond b (noted s (enter r)) s → b ≡ true → Noted enter s r t
-  noting-if true s t r e ok rs h = e ∙ noting s r rs h
-  noting-if false s t r e ok rs h = let z : ◌≡◌ {A = ℕ} 0 1 = cc in absurd (omega arith)
 
   pub unordered : (rs : List R) → Unordered enter rs (sheet_of enter rs)
   unordered rs others s = record {

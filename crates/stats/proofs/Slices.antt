@@ -4,16 +4,13 @@ use Rattle.std.proofs.lemmas.List.{take_more, take_all, take-append-drop}
 use Rattle.std.proofs.lemmas.Bool.{ltb-false, le-ltb}
 use Rattle.stats.specs.declared.entry.Entry.{Entry}
 use Rattle.stats.specs.declared.plain_sheet.PlainSheet.{PlainSheet}
-use Rattle.stats.specs.Reports.{total, sheet_of, Noted, Unordered}
+use Rattle.stats.specs.Reports.{total, sheet_of, Unordered}
 use Rattle.stats.proofs.Joins.{sums, joined-append, joined-push}
 use Rattle.stats.proofs.Noting.{unordered}
 
 module _ {R L : Type 0} (enter : R → Entry L) (rs : List R) (i : ℕ) where
   next : (r : R) → i < length rs → r ≡ get_or rs i r → take (i + 1) rs ≡ take i rs ++ (r ∷ [])
   next r h e = take_more rs i r h ∙ ap (λ q. take i rs ++ (q ∷ [])) (sym e)
-
-  pub one_more : (r : R) (s t : PlainSheet L) → i < length rs → r ≡ get_or rs i r → s ≡ sheet_of enter (take i rs) → Noted enter s r t → t ≡ sheet_of enter (take (i + 1) rs)
-  one_more r s t h e held step = step (take i rs) held ∙ ap (sheet_of enter) (sym (next r h e))
 
   total-take : total enter (take (i + 1) rs) ≤ total enter rs
   total-take =

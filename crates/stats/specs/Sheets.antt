@@ -3,4 +3,4 @@ use Rattle.stats.specs.declared.plain_sheet.PlainSheet.{PlainSheet}
 use Rattle.stats.specs.declared.sheet.Sheet.{Sheet}
 
 abbrev pub plain_of : {L : Type 0} → Sheet L → PlainSheet L
-plain_of s = record { high = s.high; low = s.low; last = s.last; volume = s.volume }
+plain_of s = s.plain

@@ -8,7 +8,7 @@ use conditions::condition::{counts, effects};
 use conditions::matrix::Says;
 
 // What one sale enters on a sheet. `Last` is what that kind of sheet holds of the last sale.
-#[derive(Clone, Copy)]
+#[derive(Clone, Copy, PartialEq, Eq, Debug)]
 pub struct Entry<Last> {
     // the price that the high and the low span, if the condition says Yes to them
     pub spanned: Option<u64>,
@@ -30,10 +30,7 @@ pub trait Enters<Last> {
 fn spanned_price(says: Says, price: u64) -> Option<u64>
     ensures { result ≡ spanned_by says price }
 {
-    match says {
-        Says::Yes => Some(price),
-        Says::First | Says::No => None,
-    }
+    (says == Says::Yes).then_some(price)
 }
 
 fn added(sale: Sale) -> u32

@@ -6,14 +6,14 @@ use crate::plain_sheet::PlainSheet;
 use crate::sheet::Sheet;
 
 // Whether a mass trading action lets the line quote the security.
-#[derive(Clone, Copy, PartialEq, Eq)]
+#[derive(Clone, Copy, PartialEq, Eq, Debug)]
 pub enum QuoteMark {
     Welcome,
     Barred,
 }
 
 // A market center's record of one security: the trade id that its next report must have, its quote mark and its sheet.
-#[derive(Clone, Copy)]
+#[derive(Clone, Copy, PartialEq, Eq, Debug)]
 pub struct MarketCenterRecord {
     pub next_trade_id: u32,
     pub quote_mark: QuoteMark,
@@ -28,7 +28,7 @@ impl MarketCenterRecord {
         MarketCenterRecord {
             next_trade_id: 1,
             quote_mark: QuoteMark::Welcome,
-            sheet: Sheet::empty().plain(),
+            sheet: PlainSheet::from(&Sheet::empty()),
         }
     }
 }
