@@ -90,7 +90,7 @@ impl Kind for Mass {
                 Row::MassAction(MassActionRow::ActionPrintable),
             ),
             3 => reject_unless(
-                TradingAction::of_letter(action(frame)).is_some(),
+                TradingAction::try_from(action(frame)).is_ok(),
                 Code::TradingAction,
                 Row::MassAction(MassActionRow::ActionAccepted),
             ),

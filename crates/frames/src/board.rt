@@ -46,13 +46,12 @@ fn after<Last: Copy, Report: Enters<Last> + Drop>(
     plain: PlainSheet<Last>,
     report: Report,
 ) -> PlainSheet<Last> {
-    match Sheet::check(plain) {
-        Some(sheet) => {
-            let mut sheet = sheet;
+    match Sheet::try_from(plain) {
+        Ok(mut sheet) => {
             let _ = sheet.note(report);
-            sheet.plain()
+            PlainSheet::from(&sheet)
         }
-        None => plain,
+        Err(_) => plain,
     }
 }
 
@@ -68,7 +67,7 @@ fn note_center(
             return Ok(());
         }
     }
-    let sheet = after(Sheet::empty().plain(), sale);
+    let sheet = after(PlainSheet::from(&Sheet::empty()), sale);
     centers.push(Center {
         line,
         symbol,
@@ -88,7 +87,7 @@ fn note_consolidated(
             return Ok(());
         }
     }
-    let sheet = after(Sheet::empty().plain(), sale);
+    let sheet = after(PlainSheet::from(&Sheet::empty()), sale);
     all.push(Consolidated { symbol, sheet })?;
     Ok(())
 }

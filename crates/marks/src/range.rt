@@ -6,7 +6,7 @@ use text::symbol::{Symbol, precedes};
 
 // The symbols from the first to the last, both included, in the order of their bytes. Where the first stands after the last
 // there are none.
-#[derive(Clone, Copy)]
+#[derive(Clone, Copy, PartialEq, Eq, Debug)]
 pub struct SymbolRange {
     pub first: Symbol,
     pub last: Symbol,

@@ -63,7 +63,7 @@ fn fresh_securities() -> [SecurityStatus; 256]
 fn empty_sheets() -> [PlainSheet<LastSale>; 256]
     ensures { result ≡ replicate 256 no_sheet }
 {
-    [Sheet::empty().plain(); 256]
+    [PlainSheet::from(&Sheet::empty()); 256]
 }
 
 impl<'a> Floor<'a> {
