@@ -11,7 +11,7 @@ ghost use Rattle.processor.specs.Kept.{Kept};
 use crate::floor::Floor;
 use crate::parts::frame_consumed;
 use marks::range::SymbolRange;
-use marks::sweep::sweep;
+use marks::sweep::Sweep;
 use marks::trading_action::TradingAction;
 use wire::mass_action::MassAction;
 
@@ -23,7 +23,11 @@ impl<'a> Floor<'a> {
         ensures leaves { day_of self.new ≡ with_records (day_of self.old) line (swept action range.now (day_of self.old).market.symbols (line_of line (day_of self.old)).records) }
     {
         let from = line * self.market.security_count();
-        match sweep(action, range, &self.market, &mut self.records, from) {
+        let sweep = Sweep {
+            action,
+            range: *range,
+        };
+        match sweep.apply(&self.market, &mut self.records, from) {
             Some(count) => count,
             None => unreachable(),
         }
@@ -40,7 +44,7 @@ impl<'a> Floor<'a> {
             first: action.first,
             last: action.last,
         };
-        let count = self.sweep_by(line, TradingAction::of_letter(action.action), &range);
+        let count = self.sweep_by(line, TradingAction::try_from(action.action).ok(), &range);
         self.set_status(line, status);
         count
     }
