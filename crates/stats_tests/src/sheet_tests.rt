@@ -20,11 +20,7 @@ fn by(line: u8, sale: Sale) -> LineSale {
 }
 
 fn check_center(rt: &impl Abort, sales: &[Sale], want: PlainSheet<u64>) -> Result<(), Fail> {
-    let got = Sheet::of(sales)?.plain();
-    assert!(rt; got.high == want.high);
-    assert!(rt; got.low == want.low);
-    assert!(rt; got.last == want.last);
-    assert!(rt; got.volume == want.volume);
+    assert_eq!(rt; PlainSheet::from(&Sheet::of(sales)?), want);
     Ok(())
 }
 
@@ -33,11 +29,7 @@ fn check_consolidated(
     reports: &[LineSale],
     want: PlainSheet<LastSale>,
 ) -> Result<(), Fail> {
-    let got = Sheet::of(reports)?.plain();
-    assert!(rt; got.high == want.high);
-    assert!(rt; got.low == want.low);
-    assert!(rt; got.last == want.last);
-    assert!(rt; got.volume == want.volume);
+    assert_eq!(rt; PlainSheet::from(&Sheet::of(reports)?), want);
     Ok(())
 }
 
@@ -125,7 +117,7 @@ fn price_nothing_is_a_price(rt: HostRuntime) -> Result<(), Fail> {
 }
 
 fn passes(high: Option<u64>, low: Option<u64>) -> bool {
-    Sheet::check(plain(high, low, Some(4u64), 9)).is_some()
+    Sheet::try_from(plain(high, low, Some(4u64), 9)).is_ok()
 }
 
 #[test]
@@ -141,13 +133,11 @@ fn a_sound_sheet_has_both_ends_or_neither(rt: HostRuntime) {
 #[test]
 fn a_full_volume_refuses_and_alters_nothing(rt: HostRuntime) -> Result<(), Fail> {
     let held = plain(None, None, Some(4u64), u64::MAX - 10);
-    let Some(mut sheet) = Sheet::check(held) else {
-        return Err(Fail::new("not sound"));
-    };
-    assert!(rt; sheet.note(sale(b"@   ", 5, 11)) == Err(VolumeFull));
-    assert!(rt; sheet.plain().last == Some(4) && sheet.plain().high == None);
-    assert!(rt; sheet.note(sale(b"@   ", 5, 10)) == Ok(()));
-    assert!(rt; sheet.plain().volume == u64::MAX);
+    let mut sheet = Sheet::try_from(held)?;
+    assert_eq!(rt; sheet.note(sale(b"@   ", 5, 11)), Err(VolumeFull));
+    assert_eq!(rt; PlainSheet::from(&sheet), held);
+    assert_eq!(rt; sheet.note(sale(b"@   ", 5, 10)), Ok(()));
+    assert_eq!(rt; PlainSheet::from(&sheet).volume, u64::MAX);
     assert!(rt; sheet.note(sale(b"E   ", 6, 1)) == Ok(()));
     Ok(())
 }
