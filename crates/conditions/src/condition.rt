@@ -1,6 +1,6 @@
 // A sale condition: four bytes, which together say to each statistic what the strongest of them says.
 ghost use Rattle.std.specs.Prelude.{◌≡◌, not, slice_index};
-ghost use Rattle.conditions.specs.Condition.{beats, together, four_effects, condition_effects, counted, is_no, none_bars};
+ghost use Rattle.conditions.specs.Condition.{beats, together, condition_effects, counted, is_no, none_bars};
 
 use crate::matrix::{Effects, Says, byte_effects};
 
@@ -23,22 +23,15 @@ fn combined(a: Effects, b: Effects) -> Effects
     }
 }
 
-// What four bytes say together. They count for volume unless one of them says No to it.
-fn four_effects(a: u8, b: u8, c: u8, d: u8) -> Effects
-    ensures value { result ≡ four_effects a b c d }
-    ensures volume { not (is_no result.volume) ≡ none_bars a b c d }
+// What the four bytes of a condition say together. They count for volume unless one of them says No to it.
+pub fn effects(condition: [u8; 4]) -> Effects
+    ensures value { result ≡ condition_effects condition }
+    ensures volume { not (is_no result.volume) ≡ none_bars (slice_index condition 0) (slice_index condition 1) (slice_index condition 2) (slice_index condition 3) }
 {
+    let [a, b, c, d] = condition;
     let front = combined(byte_effects(a), byte_effects(b));
     let back = combined(byte_effects(c), byte_effects(d));
     combined(front, back)
-}
-
-// What the four bytes of a condition say together.
-pub fn effects(condition: [u8; 4]) -> Effects
-    ensures { result ≡ condition_effects condition }
-{
-    let [a, b, c, d] = condition;
-    four_effects(a, b, c, d)
 }
 
 // Whether a report with this condition counts for volume: none of its bytes says No to it.
@@ -46,7 +39,5 @@ pub fn counts(condition: [u8; 4]) -> bool
     ensures value { result ≡ counted condition }
     ensures bytes { result ≡ none_bars (slice_index condition 0) (slice_index condition 1) (slice_index condition 2) (slice_index condition 3) }
 {
-    let [a, b, c, d] = condition;
-    let said = four_effects(a, b, c, d);
-    said.volume != Says::No
+    effects(condition).volume != Says::No
 }
