@@ -2,7 +2,7 @@
 ghost use Rattle.std.specs.Prelude.{◌≡◌};
 ghost use Rattle.marks.specs.Range.{in_range};
 
-use text::symbol::{Symbol, precedes};
+use text::symbol::Symbol;
 
 // The symbols from the first to the last, both included, in the order of their bytes. Where the first stands after the last
 // there are none.
@@ -16,6 +16,6 @@ impl SymbolRange {
     pub fn reaches(&self, symbol: &Symbol) -> bool
         ensures { result ≡ in_range self.now symbol.now }
     {
-        !precedes(symbol, &self.first) && !precedes(&self.last, symbol)
+        (self.first..=self.last).contains(symbol)
     }
 }
