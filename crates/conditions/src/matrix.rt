@@ -59,6 +59,7 @@ const ROW_LETTERS: &[u8; 256] = b"\
     ................\
     ................";
 
+// No `From<u8>`: a condition byte has a row, too, by `row_of`.
 fn row_lettered(letter: u8) -> Row
     ensures { result ≡ row_lettered letter }
 {

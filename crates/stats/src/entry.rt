@@ -19,7 +19,8 @@ pub struct Entry<Last> {
     pub adds: u32,
 }
 
-// A report that can be entered on the sheets whose last is a `Last`.
+// A report that can be entered on the sheets whose last is a `Last`. Not `Into`, whose contract is a relation: the laws add up
+// what `enter` makes of each report.
 pub trait Enters<Last> {
     ghost enter: { Self → Entry Last };
 
@@ -43,7 +44,8 @@ fn added(sale: Sale) -> u32
     }
 }
 
-// A sale is entered on its market center's sheet.
+// A sale is entered on its market center's sheet. The two impls stay apart: one function of their columns would have four
+// arguments by place, and here each stands beside its field.
 impl Enters<u64> for Sale {
     ghost enter = { center_entry };
 

@@ -92,6 +92,7 @@ impl<Last: Copy> Sheet<Last> {
             .checked_add(u64::from(entry.adds))
             .ok_or(VolumeFull)?;
         if let Some(price) = entry.spanned {
+            // High and low are two options and taken apart by a `match`: a rule of the project.
             match (sheet.high, sheet.low) {
                 (Some(high), Some(low)) => {
                     sheet.high = Some(high.max(price));
@@ -124,6 +125,7 @@ impl<Last: Copy> TryFrom<PlainSheet<Last>> for Sheet<Last> {
     }
 }
 
+// By reference, so that a sheet can be read and then noted on.
 impl<Last: Copy> From<&Sheet<Last>> for PlainSheet<Last> {
     ghost use Rattle.stats.specs.Sheets.{plain_of};
 
