@@ -45,28 +45,6 @@ impl Sweep {
         applied
     }
 
-    // The action at every security of the list, where the line's records from an index on all stand in the slice.
-    fn mark_line(
-        &self,
-        market: &MarketList,
-        records: &mut [MarketCenterRecord],
-        from: usize,
-    ) -> usize
-        requires { from + length (securities_of market.now) ≤ length records.old }
-        ensures count { result ≡ swept_count self.now.action self.now.range (securities_of market.now) (drop from records.old) }
-        ensures after { records.new ≡ take from records.old ++ swept self.now.action self.now.range (securities_of market.now) (drop from records.old) }
-    {
-        let mut security = 0;
-        let mut count = 0;
-        while let Some(symbol) = market.symbol(security) {
-            if self.mark(&symbol, &mut records[from + security]) {
-                count += 1;
-            }
-            security += 1;
-        }
-        count
-    }
-
     // Applies the action to the records of one line, which begin at an index of a slice with the records of all lines: one for
     // each security, in the order of the list. The answer is to how many securities it was applied. Where the slice ends before
     // the last security's record there is no answer, and nothing changes.
@@ -79,9 +57,15 @@ impl Sweep {
         ensures count { result ≡ sweep_tells self.now.action self.now.range (securities_of market.now) records.old from }
         ensures after { records.new ≡ sweep_leaves self.now.action self.now.range (securities_of market.now) records.old from }
     {
-        if from > records.len() || records.len() - from < market.security_count() {
+        if records.get(from..)?.len() < market.security_count() {
             return None;
         }
-        Some(self.mark_line(market, records, from))
+        let mut count = 0;
+        for (security, symbol) in market.symbols().iter().enumerate() {
+            if self.mark(symbol, &mut records[from + security]) {
+                count += 1;
+            }
+        }
+        Some(count)
     }
 }
