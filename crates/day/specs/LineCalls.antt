@@ -23,7 +23,8 @@ use Rattle.stats.specs.Records.{no_record}
 use Rattle.stats.specs.declared.record.MarketCenterRecord.{MarketCenterRecord}
 use Rattle.stats.specs.declared.sale.Sale.{Sale}
 use Rattle.verdicts.specs.Row.{trade_number}
-use Rattle.verdicts.specs.declared.answer.Answer.TheVariants.{Taken, Failed}
+use Rattle.verdicts.specs.Answer.{failed}
+use Rattle.verdicts.specs.declared.answer.Answer.TheVariants.{Taken}
 use Rattle.verdicts.specs.declared.answer.Verdict.{Verdict}
 use Rattle.verdicts.specs.declared.answer.Verdict.TheVariants.{PassedOver, Rejected, Cut}
 use Rattle.verdicts.specs.declared.row.Row.{Row}
@@ -172,7 +173,7 @@ mass_turn market line action =
 
 -- by the place of the security that the frame names, and the judgement of the frame
 unfoldable pub send_turn : Market → ℕ → Line → ℕ → Option ℕ → Result Message Verdict → Turn
-send_turn market number line time place (Err verdict) = quiet (answered (Failed verdict)) (after_verdict line place verdict)
+send_turn market number line time place (Err verdict) = quiet (answered (failed verdict)) (after_verdict line place verdict)
 send_turn market number line time place (Ok (Trade report)) = trade_turn number line time place report
 send_turn market number line time place (Ok (Mass action)) = mass_turn market line action
 
