@@ -1,5 +1,5 @@
 -- Laws of a text and its parts.
-use Rattle.std.proofs.Common.{◌≡◌, ℕ, zero, suc, ◌+◌, ◌<◌, ◌≤◌, Bool, true, false, ◌||◌, not, cond, eqb, ltb, List, [], ◌∷◌, length, get_or, sym, refl, ap, ◌∙◌, inl, inr, arith, length-drop}
+use Rattle.std.proofs.Common.{◌≡◌, ℕ, zero, suc, ◌+◌, ◌<◌, ◌≤◌, Bool, true, false, ◌||◌, not, cond, eqb, ltb, List, [], ◌∷◌, length, get_or, drop, sym, refl, ap, ◌∙◌, inl, inr, arith, length-drop}
 use Rattle.std.specs.List.{onto_first, position_or_len}
 use Rattle.std.proofs.lemmas.List.{drop_all, take_all}
 use Rattle.std.proofs.lemmas.List.Splits.{slice_split_first}
@@ -47,6 +47,12 @@ parts_some sep xs = elim (cases_Bool (has sep xs)) [
   | inl e ↦ (first_part sep xs, parts sep (past sep xs), parts_next sep xs e)
   | inr e ↦ (xs, [], parts_none sep xs e)
 ]
+
+-- a byte that is no separator does not alter what stands past the first
+pub past_other : (sep x : ℕ) (xs : List ℕ) → eqb x sep ≡ false → past sep (x ∷ xs) ≡ past sep xs
+past_other sep x xs e =
+    let one : 1 + reach sep xs + 1 ≡ suc (reach sep xs + 1) = omega arith in
+    ap (λ b. drop (cond (not b) (1 + reach sep xs) 0 + 1) (x ∷ xs)) e ∙ ap (λ k. drop k (x ∷ xs)) one
 
 -- past a separator the text is shorter
 pub past_shorter : (sep : ℕ) (xs : List ℕ) → has sep xs ≡ true → length (past sep xs) < length xs

@@ -1,11 +1,11 @@
 -- What a line sees is made of its own calls and the operator's.
-use Rattle.std.proofs.Common.{◌≡◌, ℕ, suc, ◌+◌, ◌*◌, ◌<◌, ◌≤◌, Bool, true, false, cond, not, eqb, leb, ◌≢◌, List, [], ◌∷◌, ◌++◌, length, get_or, take, drop, replicate, Some, None, decimal, Option, sym, refl, ap, ◌∙◌, subst, arith, length-append, eqb-true}
+use Rattle.std.proofs.Common.{◌≡◌, ℕ, ◌+◌, ◌*◌, ◌<◌, ◌≤◌, Bool, true, false, not, eqb, leb, ◌≢◌, List, [], ◌∷◌, ◌++◌, length, get_or, take, drop, replicate, Some, None, decimal, Option, sym, refl, ap, ◌∙◌, subst, arith, length-append, eqb-true}
 use borrow.Author.Tests.{eqb-false}
 use lib.ListN.{length-replicate}
 use Rattle.std.specs.Option.{is_some}
 use Rattle.std.proofs.lemmas.Bool.{or_parts}
 use Rattle.books.specs.Sets.{Sets}
-use Rattle.cuts.specs.Cut.{first_part, has, past}
+use Rattle.cuts.specs.Cut.{has, past}
 use Rattle.search.specs.Place.{place_of}
 use Rattle.states.specs.LineStatus.{fresh_line}
 use Rattle.states.specs.declared.refusal.Refusal.{Refusal}
@@ -22,6 +22,7 @@ use Rattle.day.specs.Laws.{LinesApart, calls_for, heard, heard_of, is_of, kept_i
 use Rattle.day.specs.Refusing.{bar_if, first_bar}
 use Rattle.day.specs.State.{Day, Line, Market, fresh_day, line_count, line_of}
 use Rattle.day.specs.Step.{run, step, tells, told_of, writing}
+use Rattle.cuts.proofs.Cuts.{past_other}
 use Rattle.day.proofs.Parts.{ends_before, part-front}
 use Rattle.day.proofs.Steps.{Sound, bytes_after, bytes_by, line_after, operates, operator_after, said_after, taken_after, taken_by, visited}
 
@@ -32,7 +33,7 @@ past_front : (front rest : List ℕ) → has 44 front ≡ false → past 44 (fro
 past_front [] rest free = refl
 past_front (x ∷ front) rest free =
     let apart = or_parts (eqb x 44) (has 44 front) free in
-    ap (λ b. drop (suc (length (cond b [] (x ∷ first_part 44 (front ++ (44 ∷ rest)))))) (x ∷ (front ++ (44 ∷ rest)))) apart.0 ∙ past_front front rest apart.1
+    past_other 44 x (front ++ (44 ∷ rest)) apart.0 ∙ past_front front rest apart.1
 
 serial_apart : (serial other time : ℕ) (report : TradeReport) → past 44 (tape_line serial time report) ≡ past 44 (tape_line other time report)
 unfolding tape_line tape_body body_fields behind
