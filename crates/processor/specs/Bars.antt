@@ -1,5 +1,5 @@
 -- The first refusal of each call, if one applies.
-use Rattle.std.specs.Prelude.{ℕ, List, [], Option}
+use Rattle.std.specs.Prelude.{ℕ, List, [], Some, None, Ok, Err, Option, Result}
 use Rattle.states.specs.declared.refusal.Refusal.{Refusal}
 use Rattle.states.specs.declared.security_status.PostedAction.{PostedAction}
 use Rattle.day.specs.Call.{LineCall, OperatorCall, inquire, post, send}
@@ -23,3 +23,8 @@ operator_bar d call = first_bar (operator_bars d.market call)
 
 abbrev pub post_bar : Day → List ℕ → PostedAction → Option Refusal
 post_bar d symbol action = operator_bar d (post symbol action)
+
+-- a call may go on unless something bars it
+abbrev pub allowed : Option Refusal → Result (Unit {0}) Refusal
+allowed None = Ok tt
+allowed (Some refusal) = Err refusal

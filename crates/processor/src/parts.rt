@@ -38,7 +38,7 @@ pub(crate) fn consumes_id(row: Row) -> bool
     ensures { result ≡ consumes_id row }
 {
     match row {
-        Row::Trade(row) => row.number() >= 5,
+        Row::Trade(row) => u16::from(row) >= 5,
         Row::Header(_) | Row::Originator | Row::FeedSequence | Row::MassAction(_) => false,
     }
 }
@@ -49,10 +49,9 @@ pub(crate) fn frame_consumed(status: LineStatus) -> LineStatus
     ensures { result ≡ frame_consumed status }
 {
     LineStatus {
-        logged_in: status.logged_in,
-        cut: status.cut,
         expected_sequence: status.expected_sequence + 1,
         consumed: status.consumed + 1,
+        ..status
     }
 }
 
@@ -63,8 +62,7 @@ pub(crate) fn id_consumed(center: MarketCenterRecord) -> MarketCenterRecord
 {
     MarketCenterRecord {
         next_trade_id: center.next_trade_id + 1,
-        quote_mark: center.quote_mark,
-        sheet: center.sheet,
+        ..center
     }
 }
 
@@ -76,10 +74,10 @@ pub(crate) fn report_taken(center: MarketCenterRecord, report: &TradeReport) -> 
     match sheet_after(center.sheet, sale_of(report)) {
         Some(sheet) => MarketCenterRecord {
             next_trade_id: center.next_trade_id + 1,
-            quote_mark: center.quote_mark,
             sheet,
+            ..center
         },
-        None => unreachable(),
+        None => unreachable!(),
     }
 }
 
@@ -98,6 +96,6 @@ pub(crate) fn report_entered(
     };
     match sheet_after(sheet, sale) {
         Some(after) => after,
-        None => unreachable(),
+        None => unreachable!(),
     }
 }

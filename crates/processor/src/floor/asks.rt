@@ -22,19 +22,15 @@ impl<'a> Floor<'a> {
         if line >= self.market.line_count() {
             return Err(Refusal::NoSuchLine);
         }
-        match find(&self.market, symbol) {
-            Some(security) => Ok(self.record(line, security).sheet),
-            None => Err(Refusal::NotListed),
-        }
+        let security = find(&self.market, symbol).ok_or(Refusal::NotListed)?;
+        Ok(self.record(line, security).sheet)
     }
 
     pub(crate) fn consolidated_sheet(&self, symbol: &[u8]) -> Result<PlainSheet<LastSale>, Refusal>
         requires { Kept (day_of self.now) }
         ensures { result ≡ consolidated_sheet (day_of self.now) symbol.now }
     {
-        match find(&self.market, symbol) {
-            Some(security) => Ok(self.sheet(security)),
-            None => Err(Refusal::NotListed),
-        }
+        let security = find(&self.market, symbol).ok_or(Refusal::NotListed)?;
+        Ok(self.sheet(security))
     }
 }

@@ -28,13 +28,9 @@ impl<'a> Floor<'a> {
         ensures said { (sets : Sets) → logged_reply line result ≡ (step sets (day_of self.old) (of_line line logging_in)).said }
         ensures leaves { (sets : Sets) → day_of self.new ≡ (step sets (day_of self.old) (of_line line logging_in)).day }
     {
-        match self.log_in_refusal(line) {
-            Some(refusal) => Err(refusal),
-            None => {
-                self.seat(line, true);
-                Ok(())
-            }
-        }
+        self.check_log_in(line)?;
+        self.seat(line, true);
+        Ok(())
     }
 
     // Answers why the line was cut, if it was.
@@ -43,40 +39,28 @@ impl<'a> Floor<'a> {
         ensures said { (sets : Sets) → left_reply result ≡ (step sets (day_of self.old) (of_line line hanging_up)).said }
         ensures leaves { (sets : Sets) → day_of self.new ≡ (step sets (day_of self.old) (of_line line hanging_up)).day }
     {
-        match self.hang_up_refusal(line) {
-            Some(refusal) => Err(refusal),
-            None => {
-                let cut = self.status(line).cut;
-                self.seat(line, false);
-                Ok(cut)
-            }
-        }
+        self.check_hang_up(line)?;
+        let cut = self.status(line).cut;
+        self.seat(line, false);
+        Ok(cut)
     }
 
     pub(crate) fn open(&mut self) -> Result<(), Refusal>
         ensures said { (sets : Sets) → done_reply result ≡ (step sets (day_of self.old) (of_operator open_day)).said }
         ensures leaves { (sets : Sets) → day_of self.new ≡ (step sets (day_of self.old) (of_operator open_day)).day }
     {
-        match self.open_refusal() {
-            Some(refusal) => Err(refusal),
-            None => {
-                self.set_phase(Phase::Open);
-                Ok(())
-            }
-        }
+        self.check_open()?;
+        self.set_phase(Phase::Open);
+        Ok(())
     }
 
     pub(crate) fn close(&mut self) -> Result<(), Refusal>
         ensures said { (sets : Sets) → done_reply result ≡ (step sets (day_of self.old) (of_operator close_day)).said }
         ensures leaves { (sets : Sets) → day_of self.new ≡ (step sets (day_of self.old) (of_operator close_day)).day }
     {
-        match self.close_refusal() {
-            Some(refusal) => Err(refusal),
-            None => {
-                self.set_phase(Phase::Closed);
-                Ok(())
-            }
-        }
+        self.check_close()?;
+        self.set_phase(Phase::Closed);
+        Ok(())
     }
 
     pub(crate) fn post(&mut self, symbol: &[u8], action: PostedAction) -> Result<(), Refusal>
@@ -84,13 +68,9 @@ impl<'a> Floor<'a> {
         ensures said { (sets : Sets) → done_reply result ≡ (step sets (day_of self.old) (of_operator (posting symbol.now action))).said }
         ensures leaves { (sets : Sets) → day_of self.new ≡ (step sets (day_of self.old) (of_operator (posting symbol.now action))).day }
     {
-        match self.post_refusal(symbol, action) {
-            Some(refusal) => Err(refusal),
-            None => {
-                self.post_open(symbol, action);
-                Ok(())
-            }
-        }
+        self.check_post(symbol, action)?;
+        self.post_open(symbol, action);
+        Ok(())
     }
 
     // A post that is not refused: the security is listed, the action leads, and there is one left.
@@ -125,13 +105,9 @@ impl<'a> Floor<'a> {
         ensures wrote { (sets : Sets) → buffer.new ≡ buffer_after (step sets (day_of self.now) (of_line line (inquiring time symbol.now (length buffer.old)))).wrote buffer.old }
         ensures same { (sets : Sets) → day_of self.now ≡ (step sets (day_of self.now) (of_line line (inquiring time symbol.now (length buffer.old)))).day }
     {
-        match self.inquire_refusal(line, symbol, buffer.len()) {
-            Some(refusal) => Err(refusal),
-            None => {
-                self.inquire_open(line, time, symbol, buffer);
-                Ok(())
-            }
-        }
+        self.check_inquire(line, symbol, buffer.len())?;
+        self.inquire_open(line, time, symbol, buffer);
+        Ok(())
     }
 
     // An inquiry that is not refused.

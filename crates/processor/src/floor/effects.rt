@@ -24,8 +24,7 @@ impl<'a> Floor<'a> {
             LineStatus {
                 logged_in: inside,
                 cut: None,
-                expected_sequence: status.expected_sequence,
-                consumed: status.consumed,
+                ..status
             },
         );
     }
@@ -38,10 +37,8 @@ impl<'a> Floor<'a> {
         self.set_status(
             line,
             LineStatus {
-                logged_in: status.logged_in,
                 cut: Some(reason),
-                expected_sequence: status.expected_sequence,
-                consumed: status.consumed,
+                ..status
             },
         );
     }

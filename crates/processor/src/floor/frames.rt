@@ -1,7 +1,7 @@
 // What becomes of a frame that was judged.
 ghost use Rattle.std.specs.Prelude.{◌≡◌, ◌<◌, [], IfSome, slice_index_or};
 ghost use Rattle.wire.specs.Part.{part};
-ghost use Rattle.verdicts.specs.declared.answer.Answer.TheVariants.{Failed};
+ghost use Rattle.verdicts.specs.Answer.{failed};
 ghost use Rattle.day.specs.Call.{answered};
 ghost use Rattle.day.specs.LineCalls.{after_verdict, context_of, expected_id, frame_limit, frame_place, quiet};
 ghost use Rattle.day.specs.State.{line_count, line_of, security_count};
@@ -32,7 +32,7 @@ impl<'a> Floor<'a> {
     // A frame that fails a row is passed over, rejected, or cuts the line.
     pub(crate) fn fail(&mut self, line: usize, place: Option<usize>, verdict: Verdict)
         requires { (line < line_count (day_of self.old).market) × ((IfSome place (λ s. s < security_count (day_of self.old).market)) × ((Kept (day_of self.old)) × ((line_of line (day_of self.old)).status.consumed < frame_limit))) }
-        ensures { day_of self.new ≡ (turned (day_of self.old) line (quiet (answered (Failed verdict)) (after_verdict (line_of line (day_of self.old)) place verdict))).day }
+        ensures { day_of self.new ≡ (turned (day_of self.old) line (quiet (answered (failed verdict)) (after_verdict (line_of line (day_of self.old)) place verdict))).day }
     {
         match verdict {
             Verdict::PassedOver => {}
@@ -81,7 +81,7 @@ impl<'a> Floor<'a> {
     {
         match self.market.originator(line) {
             Some(originator) => originator,
-            None => unreachable(),
+            None => unreachable!(),
         }
     }
 

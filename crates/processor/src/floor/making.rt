@@ -43,9 +43,7 @@ fn clear(records: &mut [MarketCenterRecord], count: usize)
     requires { count ≤ length records.old }
     ensures { records.new ≡ cleared count records.old }
 {
-    for i in 0..count {
-        records[i] = MarketCenterRecord::fresh();
-    }
+    records[..count].fill(MarketCenterRecord::fresh());
 }
 
 fn fresh_lines() -> [LineStatus; 16]

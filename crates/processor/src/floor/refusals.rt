@@ -1,8 +1,8 @@
-// The first refusal that applies to a call, if one does.
+// Whether a call is refused, and by what: the first refusal that applies.
 ghost use Rattle.std.specs.Prelude.{◌≡◌};
 ghost use Rattle.day.specs.Call.{close_day, hang_up, log_in, open_day};
 ghost use Rattle.processor.specs.Held.{Whole, day_of};
-ghost use Rattle.processor.specs.Bars.{inquire_bar, line_bar, operator_bar, post_bar, send_bar};
+ghost use Rattle.processor.specs.Bars.{allowed, inquire_bar, line_bar, operator_bar, post_bar, send_bar};
 
 use crate::floor::Floor;
 use rows::context::Phase;
@@ -19,102 +19,101 @@ const TAPE_ROOM: usize = 128;
 const INQUIRY_ROOM: usize = 33;
 
 impl<'a> Floor<'a> {
-    pub(crate) fn log_in_refusal(&self, line: usize) -> Option<Refusal>
+    pub(crate) fn check_log_in(&self, line: usize) -> Result<(), Refusal>
         requires { Whole (day_of self.now) }
-        ensures { result ≡ line_bar (day_of self.now) line log_in }
+        ensures { result ≡ allowed (line_bar (day_of self.now) line log_in) }
     {
         if line >= self.market.line_count() {
-            return Some(Refusal::NoSuchLine);
+            return Err(Refusal::NoSuchLine);
         }
         if self.status(line).logged_in {
-            return Some(Refusal::AlreadyLoggedIn);
+            return Err(Refusal::AlreadyLoggedIn);
         }
-        None
+        Ok(())
     }
 
-    pub(crate) fn hang_up_refusal(&self, line: usize) -> Option<Refusal>
+    pub(crate) fn check_hang_up(&self, line: usize) -> Result<(), Refusal>
         requires { Whole (day_of self.now) }
-        ensures { result ≡ line_bar (day_of self.now) line hang_up }
+        ensures { result ≡ allowed (line_bar (day_of self.now) line hang_up) }
     {
         if line >= self.market.line_count() || !self.status(line).logged_in {
-            return Some(Refusal::NotLoggedIn);
+            return Err(Refusal::NotLoggedIn);
         }
-        None
+        Ok(())
     }
 
-    pub(crate) fn send_refusal(&self, line: usize, room: usize) -> Option<Refusal>
+    pub(crate) fn check_send(&self, line: usize, room: usize) -> Result<(), Refusal>
         requires { Whole (day_of self.now) }
-        ensures { result ≡ send_bar (day_of self.now) line room }
+        ensures { result ≡ allowed (send_bar (day_of self.now) line room) }
     {
-        if let Some(refusal) = self.hang_up_refusal(line) {
-            return Some(refusal);
-        }
+        self.check_hang_up(line)?;
         let status = self.status(line);
         if status.cut.is_some() {
-            return Some(Refusal::LineCut);
+            return Err(Refusal::LineCut);
         }
         if status.consumed >= FRAME_LIMIT {
-            return Some(Refusal::FramesSpent);
+            return Err(Refusal::FramesSpent);
         }
         if room < TAPE_ROOM {
-            return Some(Refusal::ShortBuffer);
+            return Err(Refusal::ShortBuffer);
         }
-        None
+        Ok(())
     }
 
-    pub(crate) fn inquire_refusal(&self, line: usize, symbol: &[u8], room: usize) -> Option<Refusal>
+    pub(crate) fn check_inquire(
+        &self,
+        line: usize,
+        symbol: &[u8],
+        room: usize,
+    ) -> Result<(), Refusal>
         requires { Whole (day_of self.now) }
-        ensures { result ≡ inquire_bar (day_of self.now) line symbol.now room }
+        ensures { result ≡ allowed (inquire_bar (day_of self.now) line symbol.now room) }
     {
-        if let Some(refusal) = self.hang_up_refusal(line) {
-            return Some(refusal);
-        }
+        self.check_hang_up(line)?;
         if self.status(line).cut.is_some() {
-            return Some(Refusal::LineCut);
+            return Err(Refusal::LineCut);
         }
         if room < INQUIRY_ROOM {
-            return Some(Refusal::ShortBuffer);
+            return Err(Refusal::ShortBuffer);
         }
         if find(&self.market, symbol).is_none() {
-            return Some(Refusal::NotListed);
+            return Err(Refusal::NotListed);
         }
-        None
+        Ok(())
     }
 
-    pub(crate) fn open_refusal(&self) -> Option<Refusal>
-        ensures { result ≡ operator_bar (day_of self.now) open_day }
+    pub(crate) fn check_open(&self) -> Result<(), Refusal>
+        ensures { result ≡ allowed (operator_bar (day_of self.now) open_day) }
     {
         match self.phase {
-            Phase::Fresh => None,
-            Phase::Open | Phase::Closed => Some(Refusal::WrongPhase),
+            Phase::Fresh => Ok(()),
+            Phase::Open | Phase::Closed => Err(Refusal::WrongPhase),
         }
     }
 
-    pub(crate) fn close_refusal(&self) -> Option<Refusal>
-        ensures { result ≡ operator_bar (day_of self.now) close_day }
+    pub(crate) fn check_close(&self) -> Result<(), Refusal>
+        ensures { result ≡ allowed (operator_bar (day_of self.now) close_day) }
     {
         match self.phase {
-            Phase::Open => None,
-            Phase::Fresh | Phase::Closed => Some(Refusal::WrongPhase),
+            Phase::Open => Ok(()),
+            Phase::Fresh | Phase::Closed => Err(Refusal::WrongPhase),
         }
     }
 
-    pub(crate) fn post_refusal(&self, symbol: &[u8], action: PostedAction) -> Option<Refusal>
+    pub(crate) fn check_post(&self, symbol: &[u8], action: PostedAction) -> Result<(), Refusal>
         requires { Whole (day_of self.now) }
-        ensures { result ≡ post_bar (day_of self.now) symbol.now action }
+        ensures { result ≡ allowed (post_bar (day_of self.now) symbol.now action) }
     {
-        match find(&self.market, symbol) {
-            Some(security) => {
-                let status = self.security(security);
-                if next_state(status.state, action).is_none() {
-                    return Some(Refusal::NoTransition);
-                }
-                if status.posted >= ACTION_LIMIT {
-                    return Some(Refusal::ActionsSpent);
-                }
-                None
-            }
-            None => Some(Refusal::NotListed),
+        let Some(security) = find(&self.market, symbol) else {
+            return Err(Refusal::NotListed);
+        };
+        let status = self.security(security);
+        if next_state(status.state, action).is_none() {
+            return Err(Refusal::NoTransition);
         }
+        if status.posted >= ACTION_LIMIT {
+            return Err(Refusal::ActionsSpent);
+        }
+        Ok(())
     }
 }

@@ -58,7 +58,7 @@ impl<'a> Floor<'a> {
         match judgement {
             Err(verdict) => {
                 self.fail(line, place, verdict);
-                Answer::Failed(verdict)
+                Answer::from(verdict)
             }
             Ok(message) => self.obey(line, time, place, message, buffer),
         }
@@ -96,9 +96,7 @@ impl<'a> Floor<'a> {
         ensures leaves { day_of self.new ≡ (step (B.CodeBook.sets book.now) (day_of self.old) (of_line line (sending time frame.now (length buffer.old)))).day }
         ensures wrote { buffer.new ≡ buffer_after (step (B.CodeBook.sets book.now) (day_of self.old) (of_line line (sending time frame.now (length buffer.old)))).wrote buffer.old }
     {
-        match self.send_refusal(line, buffer.len()) {
-            Some(refusal) => Err(refusal),
-            None => Ok(self.send_open(line, book, time, frame, buffer)),
-        }
+        self.check_send(line, buffer.len())?;
+        Ok(self.send_open(line, book, time, frame, buffer))
     }
 }

@@ -29,7 +29,7 @@ impl<'a> Floor<'a> {
         };
         match sweep.apply(&self.market, &mut self.records, from) {
             Some(count) => count,
-            None => unreachable(),
+            None => unreachable!(),
         }
     }
 

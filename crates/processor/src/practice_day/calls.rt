@@ -43,10 +43,8 @@ impl<'a> Day<'a> {
         ensures said { (sets : Sets) → ticket_reply result ≡ (step sets (day_of self.old.floor) (of_line line logging_in)).said }
         ensures leaves { (sets : Sets) → day_of self.new.floor ≡ (step sets (day_of self.old.floor) (of_line line logging_in)).day }
     {
-        match self.floor.log_in(line) {
-            Ok(()) => Ok(Ticket { line, spent: false }),
-            Err(refusal) => Err(refusal),
-        }
+        self.floor.log_in(line)?;
+        Ok(Ticket { line, spent: false })
     }
 
     pub(crate) fn send<B: CodeBook>(

@@ -1,4 +1,5 @@
-use Rattle.std.proofs.Common.{◌≡◌, sym, ap, ◌∙◌}
+use Rattle.std.proofs.Common.{◌≡◌, ap, ◌∙◌}
+use Rattle.std.proofs.lemmas.Result.{err_from_is_err_and}
 use Rattle.books.specs.Sets.{Sets}
 use Rattle.day.specs.Call.{close_day, of_operator}
 use Rattle.day.specs.Operator.{operated}
@@ -7,17 +8,18 @@ use Rattle.processor.specs.Held.{day_of}
 use Rattle.processor.proofs.Calls.{operator_goes, operator_refused}
 use Rattle.processor.proofs.floor.Floor.close.Goals as goal
 
-pub returns-in-Some : goal.returns-in-Some
-returns-in-Some c =
+pub returns-in_err-check_close : goal.returns-in_err-check_close
+returns-in_err-check_close c =
     let d = day_of c.args.self.now in
-    let same : (sets : Sets) → refusing d c.in-Some.refusal ≡ step sets d (of_operator close_day) =
-    λ sets. operator_refused sets d close_day c.in-Some.refusal (sym c.close_refusal.ensures ∙ c.in-Some.is) in
-    record { said = λ sets. ap (λ s. s.said) (same sets); leaves = λ sets. ap (λ s. s.day) (same sets) }
+    let same : (sets : Sets) → refusing d c.in_err-check_close.field-0.0 ≡ step sets d (of_operator close_day) =
+    λ sets. operator_refused sets d close_day c.in_err-check_close.field-0.0 c.in_err-check_close.ensures in
+    let p = err_from_is_err_and c.from_residual.result c.from_residual.ensures.1 in
+    rw (p.1, p.2) (record { said = λ sets. ap (λ s. s.said) (same sets); leaves = λ sets. ap (λ s. s.day) (same sets) })
 
-pub returns-in-None : goal.returns-in-None
+pub returns : goal.returns
 unfolding operated
-returns-in-None c =
+returns c =
     let d = day_of c.args.self.now in
     let same : (sets : Sets) → market_after d (operated d.market close_day) ≡ step sets d (of_operator close_day) =
-    λ sets. operator_goes sets d close_day (sym c.close_refusal.ensures ∙ c.in-None.is) in
+    λ sets. operator_goes sets d close_day c.in_ok-check_close.ensures in
     record { said = λ sets. ap (λ s. s.said) (same sets); leaves = λ sets. c.set_phase.ensures ∙ ap (λ s. s.day) (same sets) }
