@@ -1,5 +1,5 @@
 -- What the processor holds, as the day that it is, and a day with something else at one place.
-use Rattle.std.specs.Prelude.{◌≡◌, ℕ, ◌*◌, ◌≤◌, List, ◌++◌, length, take, drop, replicate, Some, slice_set}
+use Rattle.std.specs.Prelude.{◌≡◌, ℕ, ◌*◌, ◌≤◌, List, ◌++◌, length, drop, replicate, Some, slice_set}
 use Rattle.lists.specs.Listed.{lines_of, securities_of}
 use Rattle.states.specs.declared.line_status.LineStatus.{LineStatus}
 use Rattle.states.specs.declared.security_status.SecurityStatus.{SecurityStatus}
@@ -18,11 +18,11 @@ day_of f = record {
     originators = lines_of f.market;
     start = f.start;
     phase = f.phase;
-    securities = take (length (securities_of f.market)) f.securities;
+    securities = f.securities.items;
   };
-  statuses = take (length (lines_of f.market)) f.lines;
+  statuses = f.lines.items;
   records = f.records.now;
-  sheets = take (length (securities_of f.market)) f.sheets;
+  sheets = f.sheets.items;
   serial = f.serial;
 }
 

@@ -1,6 +1,7 @@
 // All that a practice day holds.
 ghost use Rattle.std.specs.Prelude.{◌≡◌, ◌*◌, ◌<◌, ◌≤◌, length, get_or};
 
+use arrayvec::ArrayVec;
 use lists::market_list::MarketList;
 use rows::context::Phase;
 use states::line_status::LineStatus;
@@ -20,16 +21,17 @@ pub(crate) mod reports;
 pub(crate) mod sends;
 pub(crate) mod sweeps;
 
-// Of each array only the places of lines and securities on the list are in use. The records are lent: line after line, and in a line
-// security after security.
+// A status for each line and for each security, and a consolidated sheet for each security, in the order of the list, in memory of its
+// own. The records are lent: line after line, and in a line security after security. The sheets stand apart from what else is kept of a
+// security, as in the definition of a day, since no line's call may look at them.
 #[derive(Drop)]
 pub(crate) struct Floor<'a> {
     market: MarketList,
     start: u64,
     phase: Phase,
-    securities: [SecurityStatus; 256],
-    lines: [LineStatus; 16],
+    securities: ArrayVec<SecurityStatus, 256>,
+    lines: ArrayVec<LineStatus, 16>,
     records: &'a mut [MarketCenterRecord],
-    sheets: [PlainSheet<LastSale>; 256],
+    sheets: ArrayVec<PlainSheet<LastSale>, 256>,
     serial: u64,
 }

@@ -15,11 +15,11 @@ pub struct LineStatus {
     pub consumed: u32,
 }
 
-impl LineStatus {
-    // A line that nobody has logged in to yet: feed sequences begin at 1.
-    pub fn fresh() -> LineStatus
-        ensures { result ≡ fresh_line }
-    {
+// A line that nobody has logged in to yet: feed sequences begin at 1.
+impl Default for LineStatus {
+    ghost is_default = { λ status. status ≡ fresh_line };
+
+    fn default() -> LineStatus {
         LineStatus {
             logged_in: false,
             cut: None,

@@ -20,11 +20,11 @@ pub struct SecurityStatus {
     pub posted: u32,
 }
 
-impl SecurityStatus {
-    // Before any action a security trades.
-    pub fn fresh() -> SecurityStatus
-        ensures { result ≡ fresh_security }
-    {
+// Before any action a security trades.
+impl Default for SecurityStatus {
+    ghost is_default = { λ status. status ≡ fresh_security };
+
+    fn default() -> SecurityStatus {
         SecurityStatus {
             state: SecurityState::Trading,
             posted: 0,

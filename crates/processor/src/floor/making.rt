@@ -8,6 +8,7 @@ ghost use Rattle.processor.specs.Held.{cleared, day_of};
 ghost use Rattle.processor.specs.Making.{making};
 
 use crate::floor::Floor;
+use arrayvec::ArrayVec;
 use lists::market_list::MarketList;
 use rows::context::Phase;
 use states::line_status::LineStatus;
@@ -46,22 +47,16 @@ fn clear(records: &mut [MarketCenterRecord], count: usize)
     records[..count].fill(MarketCenterRecord::fresh());
 }
 
-fn fresh_lines() -> [LineStatus; 16]
-    ensures { result ≡ replicate 16 fresh_line }
+// So many of one value.
+fn filled<T: Copy + Default, const N: usize>(value: T, count: usize) -> ArrayVec<T, N>
+    requires { count ≤ N }
+    ensures { result.items ≡ replicate count value }
 {
-    [LineStatus::fresh(); 16]
-}
-
-fn fresh_securities() -> [SecurityStatus; 256]
-    ensures { result ≡ replicate 256 fresh_security }
-{
-    [SecurityStatus::fresh(); 256]
-}
-
-fn empty_sheets() -> [PlainSheet<LastSale>; 256]
-    ensures { result ≡ replicate 256 no_sheet }
-{
-    [PlainSheet::from(&Sheet::empty()); 256]
+    let mut items = ArrayVec::new();
+    for _ in 0..count {
+        items.push(value);
+    }
+    items
 }
 
 impl<'a> Floor<'a> {
@@ -74,14 +69,17 @@ impl<'a> Floor<'a> {
         ensures { day_of result ≡ fresh_day (securities_of market) (lines_of market) start records.old }
     {
         clear(records, records_needed(&market));
+        let securities = filled(SecurityStatus::default(), market.security_count());
+        let lines = filled(LineStatus::default(), market.line_count());
+        let sheets = filled(PlainSheet::default(), market.security_count());
         Floor {
             market,
             start,
             phase: Phase::Fresh,
-            securities: fresh_securities(),
-            lines: fresh_lines(),
+            securities,
+            lines,
             records,
-            sheets: empty_sheets(),
+            sheets,
             serial: 0,
         }
     }

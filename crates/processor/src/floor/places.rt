@@ -24,7 +24,7 @@ impl<'a> Floor<'a> {
     }
 
     pub(crate) fn set_status(&mut self, line: usize, status: LineStatus)
-        requires { line < line_count (day_of self.old).market }
+        requires { line < length (day_of self.old).statuses }
         ensures { day_of self.new ≡ with_status (day_of self.old) line status }
     {
         self.lines[line] = status;
@@ -62,7 +62,7 @@ impl<'a> Floor<'a> {
     }
 
     pub(crate) fn set_sheet(&mut self, security: usize, sheet: PlainSheet<LastSale>, serial: u64)
-        requires { security < security_count (day_of self.old).market }
+        requires { security < length (day_of self.old).sheets }
         ensures { day_of self.new ≡ with_sheet (day_of self.old) security sheet serial }
     {
         self.sheets[security] = sheet;
@@ -77,7 +77,7 @@ impl<'a> Floor<'a> {
     }
 
     pub(crate) fn set_security(&mut self, security: usize, status: SecurityStatus)
-        requires { security < security_count (day_of self.old).market }
+        requires { security < length (day_of self.old).market.securities }
         ensures { day_of self.new ≡ with_market (day_of self.old) (with_security (day_of self.old).market security status) }
     {
         self.securities[security] = status;
