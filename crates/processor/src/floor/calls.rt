@@ -49,7 +49,7 @@ impl<'a> Floor<'a> {
         ensures said { (sets : Sets) → done_reply result ≡ (step sets (day_of self.old) (of_operator open_day)).said }
         ensures leaves { (sets : Sets) → day_of self.new ≡ (step sets (day_of self.old) (of_operator open_day)).day }
     {
-        self.check_open()?;
+        self.check_phase(Phase::Fresh)?;
         self.set_phase(Phase::Open);
         Ok(())
     }
@@ -58,7 +58,7 @@ impl<'a> Floor<'a> {
         ensures said { (sets : Sets) → done_reply result ≡ (step sets (day_of self.old) (of_operator close_day)).said }
         ensures leaves { (sets : Sets) → day_of self.new ≡ (step sets (day_of self.old) (of_operator close_day)).day }
     {
-        self.check_close()?;
+        self.check_phase(Phase::Open)?;
         self.set_phase(Phase::Closed);
         Ok(())
     }

@@ -82,22 +82,15 @@ impl<'a> Floor<'a> {
         Ok(())
     }
 
-    pub(crate) fn check_open(&self) -> Result<(), Refusal>
-        ensures { result ≡ allowed (operator_bar (day_of self.now) open_day) }
+    // Whether the day stands where opening or closing it begins.
+    pub(crate) fn check_phase(&self, needed: Phase) -> Result<(), Refusal>
+        ensures opening { needed ≡ Phase.Fresh → result ≡ allowed (operator_bar (day_of self.now) open_day) }
+        ensures closing { needed ≡ Phase.Open → result ≡ allowed (operator_bar (day_of self.now) close_day) }
     {
-        match self.phase {
-            Phase::Fresh => Ok(()),
-            Phase::Open | Phase::Closed => Err(Refusal::WrongPhase),
+        if self.phase != needed {
+            return Err(Refusal::WrongPhase);
         }
-    }
-
-    pub(crate) fn check_close(&self) -> Result<(), Refusal>
-        ensures { result ≡ allowed (operator_bar (day_of self.now) close_day) }
-    {
-        match self.phase {
-            Phase::Open => Ok(()),
-            Phase::Fresh | Phase::Closed => Err(Refusal::WrongPhase),
-        }
+        Ok(())
     }
 
     pub(crate) fn check_post(&self, symbol: &[u8], action: PostedAction) -> Result<(), Refusal>
