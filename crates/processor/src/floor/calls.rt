@@ -139,8 +139,5 @@ fn put_inquiry(inquiry: &Inquiry, buffer: &mut [u8])
     requires { inquiry_room ≤ length buffer.old }
     ensures { buffer.new ≡ buffer_after (inquiry_bytes inquiry.now) buffer.old }
 {
-    match inquiry.write(buffer) {
-        Ok(()) => {}
-        Err(_) => {}
-    }
+    let _ = inquiry.write(buffer);
 }

@@ -63,8 +63,5 @@ fn put_line(buffer: &mut [u8], serial: u64, time: u64, report: &TradeReport)
     requires { tape_room ≤ length buffer.old }
     ensures { buffer.new ≡ buffer_after (tape_line serial time report.now) buffer.old }
 {
-    match write_tape_line(buffer, serial, time, report) {
-        Ok(_) => {}
-        Err(_) => {}
-    }
+    let _ = write_tape_line(buffer, serial, time, report);
 }

@@ -4,8 +4,8 @@ use Rattle.inquiry.specs.Inquiry.{inquiry_bytes}
 use Rattle.processor.proofs.floor.calls.put_inquiry.Goals as goal
 
 -- the buffer is as long as before, so the bytes in front are as many as those that they stand for
-pub returns-in-Ok : goal.returns-in-Ok
-returns-in-Ok c =
+pub returns : goal.returns
+returns c =
     let buffer = c.args.buffer.now in
     let bytes = inquiry_bytes c.args.inquiry.now in
     let after : c.write.new.buffer ≡ bytes ++ drop 33 buffer = c.write.ensures.after ∙ ap (λ b. cond b (bytes ++ drop 33 buffer) buffer) (le-leb 33 (length buffer) c.requires) in
