@@ -10,7 +10,7 @@ ghost use Rattle.inquiry.specs.Inquiry.{inquiry_bytes};
 ghost use Rattle.search.specs.Place.{place_of};
 ghost use Rattle.processor.specs.Bars.{inquire_bar, post_bar};
 ghost use Rattle.processor.specs.Held.{day_of, with_market};
-ghost use Rattle.processor.specs.Kept.{Kept};
+ghost use Rattle.processor.specs.Kept.{Kept, OnSecurity};
 ghost use Rattle.processor.specs.Replies.{done_reply, left_reply, logged_reply, told_reply};
 
 use crate::floor::Floor;
@@ -121,7 +121,7 @@ impl<'a> Floor<'a> {
     }
 
     fn inquiry_of(&self, line: usize, time: u64, symbol: &Symbol, security: usize) -> Inquiry
-        requires { (line < line_count (day_of self.now).market) × ((security < security_count (day_of self.now).market) × (Kept (day_of self.now))) }
+        requires { OnSecurity (day_of self.now) line security }
         ensures { result ≡ inquiry_of (day_of self.now).market (line_of line (day_of self.now)) time symbol.now security }
     {
         let status = self.security(security);

@@ -5,7 +5,7 @@ ghost use Rattle.day.specs.LineCalls.{frame_consumed, frame_limit, id_consumed, 
 ghost use Rattle.day.specs.State.{line_count, line_of, security_count};
 ghost use Rattle.day.specs.Step.{turned};
 ghost use Rattle.processor.specs.Held.{cut_status, day_of, with_record, with_status};
-ghost use Rattle.processor.specs.Kept.{Kept};
+ghost use Rattle.processor.specs.Kept.{FramesLeft, OnLine, OnSecurity};
 
 use crate::floor::Floor;
 use crate::parts::{frame_consumed, id_consumed};
@@ -15,7 +15,7 @@ use verdicts::answer::Reason;
 impl<'a> Floor<'a> {
     // The line logs in or hangs up; a cut ends with either.
     pub(crate) fn seat(&mut self, line: usize, inside: bool)
-        requires { (line < line_count (day_of self.old).market) × (Kept (day_of self.old)) }
+        requires { OnLine (day_of self.old) line }
         ensures { day_of self.new ≡ (turned (day_of self.old) line (quiet (ticket line) (seated inside (line_of line (day_of self.old))))).day }
     {
         let status = self.status(line);
@@ -30,7 +30,7 @@ impl<'a> Floor<'a> {
     }
 
     pub(crate) fn cut(&mut self, line: usize, reason: Reason)
-        requires { (line < line_count (day_of self.old).market) × (Kept (day_of self.old)) }
+        requires { OnLine (day_of self.old) line }
         ensures { day_of self.new ≡ with_status (day_of self.old) line (cut_status reason (line_of line (day_of self.old)).status) }
     {
         let status = self.status(line);
@@ -44,7 +44,8 @@ impl<'a> Floor<'a> {
     }
 
     pub(crate) fn consume_frame(&mut self, line: usize)
-        requires { (line < line_count (day_of self.old).market) × ((Kept (day_of self.old)) × ((line_of line (day_of self.old)).status.consumed < frame_limit)) }
+        requires listed { OnLine (day_of self.old) line }
+        requires frames_left { FramesLeft (day_of self.old) line }
         ensures { day_of self.new ≡ with_status (day_of self.old) line (frame_consumed (line_of line (day_of self.old)).status) }
     {
         let status = self.status(line);
@@ -52,7 +53,8 @@ impl<'a> Floor<'a> {
     }
 
     pub(crate) fn consume_id(&mut self, line: usize, security: usize)
-        requires { (line < line_count (day_of self.old).market) × ((security < security_count (day_of self.old).market) × ((Kept (day_of self.old)) × ((line_of line (day_of self.old)).status.consumed < frame_limit))) }
+        requires listed { OnSecurity (day_of self.old) line security }
+        requires frames_left { FramesLeft (day_of self.old) line }
         ensures { day_of self.new ≡ with_record (day_of self.old) line security (id_consumed (record_at (line_of line (day_of self.old)).records security)) }
     {
         let center = self.record(line, security);
@@ -61,7 +63,8 @@ impl<'a> Floor<'a> {
 
     // A frame and its trade id.
     pub(crate) fn consume_both(&mut self, line: usize, security: usize)
-        requires { (line < line_count (day_of self.old).market) × ((security < security_count (day_of self.old).market) × ((Kept (day_of self.old)) × ((line_of line (day_of self.old)).status.consumed < frame_limit))) }
+        requires listed { OnSecurity (day_of self.old) line security }
+        requires frames_left { FramesLeft (day_of self.old) line }
         ensures { day_of self.new ≡ with_status (with_record (day_of self.old) line security (id_consumed (record_at (line_of line (day_of self.old)).records security))) line (frame_consumed (line_of line (day_of self.old)).status) }
     {
         let status = frame_consumed(self.status(line));

@@ -7,7 +7,7 @@ ghost use Rattle.day.specs.LineCalls.{after_verdict, context_of, expected_id, fr
 ghost use Rattle.day.specs.State.{line_count, line_of, security_count};
 ghost use Rattle.day.specs.Step.{turned};
 ghost use Rattle.processor.specs.Held.{day_of};
-ghost use Rattle.processor.specs.Kept.{Kept};
+ghost use Rattle.processor.specs.Kept.{FramesLeft, OnPlace};
 
 use crate::floor::Floor;
 use crate::parts::consumes_id;
@@ -31,7 +31,8 @@ fn symbol_part(frame: &[u8]) -> &[u8]
 impl<'a> Floor<'a> {
     // A frame that fails a row is passed over, rejected, or cuts the line.
     pub(crate) fn fail(&mut self, line: usize, place: Option<usize>, verdict: Verdict)
-        requires { (line < line_count (day_of self.old).market) × ((IfSome place (λ s. s < security_count (day_of self.old).market)) × ((Kept (day_of self.old)) × ((line_of line (day_of self.old)).status.consumed < frame_limit))) }
+        requires listed { OnPlace (day_of self.old) line place }
+        requires frames_left { FramesLeft (day_of self.old) line }
         ensures { day_of self.new ≡ (turned (day_of self.old) line (quiet (answered (failed verdict)) (after_verdict (line_of line (day_of self.old)) place verdict))).day }
     {
         match verdict {
@@ -60,7 +61,7 @@ impl<'a> Floor<'a> {
 
     // What the rows look at besides the frame and the code book.
     pub(crate) fn context(&self, line: usize, time: u64, place: Option<usize>) -> Context
-        requires { (line < line_count (day_of self.now).market) × ((IfSome place (λ s. s < security_count (day_of self.now).market)) × (Kept (day_of self.now))) }
+        requires { OnPlace (day_of self.now) line place }
         ensures { result ≡ context_of (day_of self.now).market line (line_of line (day_of self.now)) time place }
     {
         let status = self.status(line);
@@ -86,7 +87,7 @@ impl<'a> Floor<'a> {
     }
 
     fn expected_id(&self, line: usize, place: Option<usize>) -> u32
-        requires { (line < line_count (day_of self.now).market) × ((IfSome place (λ s. s < security_count (day_of self.now).market)) × (Kept (day_of self.now))) }
+        requires { OnPlace (day_of self.now) line place }
         ensures { result ≡ expected_id (line_of line (day_of self.now)).records place }
     {
         match place {

@@ -7,7 +7,7 @@ ghost use Rattle.day.specs.State.{line_count, line_of, no_sheet, security_count}
 ghost use Rattle.day.specs.Step.{buffer_after, turned};
 ghost use Rattle.tape.specs.TapeLine.{tape_line};
 ghost use Rattle.processor.specs.Held.{day_of};
-ghost use Rattle.processor.specs.Kept.{Kept};
+ghost use Rattle.processor.specs.Kept.{FramesLeft, OnSecurity};
 
 use crate::floor::Floor;
 use crate::parts::{frame_consumed, report_entered, report_taken};
@@ -20,7 +20,8 @@ use wire::trade_report::TradeReport;
 impl<'a> Floor<'a> {
     // The line's record of the security with the report.
     fn center_with(&self, line: usize, security: usize, report: &TradeReport) -> MarketCenterRecord
-        requires { (line < line_count (day_of self.now).market) × ((security < security_count (day_of self.now).market) × ((Kept (day_of self.now)) × ((line_of line (day_of self.now)).status.consumed < frame_limit))) }
+        requires listed { OnSecurity (day_of self.now) line security }
+        requires frames_left { FramesLeft (day_of self.now) line }
         ensures { result ≡ report_taken report.now (record_at (line_of line (day_of self.now)).records security) }
     {
         report_taken(self.record(line, security), report)
@@ -28,7 +29,7 @@ impl<'a> Floor<'a> {
 
     // The consolidated sheet of the security with the report.
     fn sheet_with(&self, line: usize, security: usize, report: &TradeReport) -> PlainSheet<LastSale>
-        requires { (line < line_count (day_of self.now).market) × ((security < security_count (day_of self.now).market) × (Kept (day_of self.now))) }
+        requires { OnSecurity (day_of self.now) line security }
         ensures { result ≡ noted (slice_index_or (day_of self.now).sheets security no_sheet) (consolidated_entry (record { line = line; sale = sale_of report.now })) }
     {
         report_entered(self.sheet(security), line as u8, report)
@@ -43,8 +44,9 @@ impl<'a> Floor<'a> {
         report: &TradeReport,
         buffer: &mut [u8],
     )
-        requires line_bound { (line < line_count (day_of self.old).market) × ((security < security_count (day_of self.old).market) × ((Kept (day_of self.old)) × ((line_of line (day_of self.old)).status.consumed < frame_limit))) }
-        requires tape_room_in_bounds { tape_room ≤ length buffer.old }
+        requires listed { OnSecurity (day_of self.old) line security }
+        requires frames_left { FramesLeft (day_of self.old) line }
+        requires room { tape_room ≤ length buffer.old }
         ensures leaves { day_of self.new ≡ (turned (day_of self.old) line (trade_turn line (line_of line (day_of self.old)) time (Some security) report.now)).day }
         ensures wrote { buffer.new ≡ buffer_after (tape_line (self.old.serial + 1) time report.now) buffer.old }
     {

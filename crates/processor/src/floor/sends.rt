@@ -5,7 +5,7 @@ ghost use Rattle.day.specs.LineCalls.{frame_limit, tape_room};
 ghost use Rattle.day.specs.State.{line_count, line_of, security_count};
 ghost use Rattle.day.specs.Step.{buffer_after, step, turned};
 ghost use Rattle.processor.specs.Held.{day_of};
-ghost use Rattle.processor.specs.Kept.{Kept};
+ghost use Rattle.processor.specs.Kept.{FramesLeft, Kept, OnLine, OnPlace};
 ghost use Rattle.processor.specs.Replies.{sent_reply};
 ghost use Rattle.processor.specs.Turns.{frame_turn, judged_turn};
 
@@ -25,7 +25,9 @@ impl<'a> Floor<'a> {
         message: Message,
         buffer: &mut [u8],
     ) -> Answer
-        requires { (line < line_count (day_of self.old).market) × ((IfSome place (λ s. s < security_count (day_of self.old).market)) × ((Kept (day_of self.old)) × (((line_of line (day_of self.old)).status.consumed < frame_limit) × (tape_room ≤ length buffer.old)))) }
+        requires listed { OnPlace (day_of self.old) line place }
+        requires frames_left { FramesLeft (day_of self.old) line }
+        requires room { tape_room ≤ length buffer.old }
         ensures said { answered result ≡ (judged_turn (day_of self.old) line time place (Ok message)).said }
         ensures leaves { day_of self.new ≡ (turned (day_of self.old) line (judged_turn (day_of self.old) line time place (Ok message))).day }
         ensures wrote { buffer.new ≡ buffer_after (turned (day_of self.old) line (judged_turn (day_of self.old) line time place (Ok message))).wrote buffer.old }
@@ -50,7 +52,9 @@ impl<'a> Floor<'a> {
         judgement: Result<Message, Verdict>,
         buffer: &mut [u8],
     ) -> Answer
-        requires { (line < line_count (day_of self.old).market) × ((IfSome place (λ s. s < security_count (day_of self.old).market)) × ((Kept (day_of self.old)) × (((line_of line (day_of self.old)).status.consumed < frame_limit) × (tape_room ≤ length buffer.old)))) }
+        requires listed { OnPlace (day_of self.old) line place }
+        requires frames_left { FramesLeft (day_of self.old) line }
+        requires room { tape_room ≤ length buffer.old }
         ensures said { answered result ≡ (judged_turn (day_of self.old) line time place judgement).said }
         ensures leaves { day_of self.new ≡ (turned (day_of self.old) line (judged_turn (day_of self.old) line time place judgement)).day }
         ensures wrote { buffer.new ≡ buffer_after (turned (day_of self.old) line (judged_turn (day_of self.old) line time place judgement)).wrote buffer.old }
@@ -73,7 +77,9 @@ impl<'a> Floor<'a> {
         frame: &[u8],
         buffer: &mut [u8],
     ) -> Answer
-        requires { (line < line_count (day_of self.old).market) × ((Kept (day_of self.old)) × (((line_of line (day_of self.old)).status.consumed < frame_limit) × (tape_room ≤ length buffer.old))) }
+        requires listed { OnLine (day_of self.old) line }
+        requires frames_left { FramesLeft (day_of self.old) line }
+        requires room { tape_room ≤ length buffer.old }
         ensures said { answered result ≡ (frame_turn (B.CodeBook.sets book.now) (day_of self.old) line time frame.now).said }
         ensures leaves { day_of self.new ≡ (turned (day_of self.old) line (frame_turn (B.CodeBook.sets book.now) (day_of self.old) line time frame.now)).day }
         ensures wrote { buffer.new ≡ buffer_after (turned (day_of self.old) line (frame_turn (B.CodeBook.sets book.now) (day_of self.old) line time frame.now)).wrote buffer.old }

@@ -6,7 +6,7 @@ ghost use Rattle.day.specs.LineCalls.{counted_by, frame_limit, marked_by, mass_t
 ghost use Rattle.day.specs.State.{line_count, line_of};
 ghost use Rattle.day.specs.Step.{turned};
 ghost use Rattle.processor.specs.Held.{day_of, with_records};
-ghost use Rattle.processor.specs.Kept.{Kept};
+ghost use Rattle.processor.specs.Kept.{FramesLeft, OnLine};
 
 use crate::floor::Floor;
 use crate::parts::frame_consumed;
@@ -18,7 +18,7 @@ use wire::mass_action::MassAction;
 impl<'a> Floor<'a> {
     // Marks the line's records, and counts those that the action was applied to.
     fn sweep_line(&mut self, line: usize, action: TradingAction, range: &SymbolRange) -> usize
-        requires { (line < line_count (day_of self.old).market) × (Kept (day_of self.old)) }
+        requires { OnLine (day_of self.old) line }
         ensures count { result ≡ swept_count action range.now (day_of self.old).market.symbols (line_of line (day_of self.old)).records }
         ensures leaves { day_of self.new ≡ with_records (day_of self.old) line (swept action range.now (day_of self.old).market.symbols (line_of line (day_of self.old)).records) }
     {
@@ -35,7 +35,8 @@ impl<'a> Floor<'a> {
 
     // Takes a mass trading action that no row refuses.
     pub(crate) fn mark(&mut self, line: usize, action: &MassAction) -> usize
-        requires { (line < line_count (day_of self.old).market) × ((Kept (day_of self.old)) × ((line_of line (day_of self.old)).status.consumed < frame_limit)) }
+        requires listed { OnLine (day_of self.old) line }
+        requires frames_left { FramesLeft (day_of self.old) line }
         ensures count { result ≡ counted_by (action_of action.now.action) (range_of action.now) (day_of self.old).market.symbols (line_of line (day_of self.old)).records }
         ensures leaves { day_of self.new ≡ (turned (day_of self.old) line (mass_turn (day_of self.old).market (line_of line (day_of self.old)) action.now)).day }
     {
@@ -51,7 +52,7 @@ impl<'a> Floor<'a> {
 
     // Marks nothing where there is no action.
     fn sweep_by(&mut self, line: usize, action: Option<TradingAction>, range: &SymbolRange) -> usize
-        requires { (line < line_count (day_of self.old).market) × (Kept (day_of self.old)) }
+        requires { OnLine (day_of self.old) line }
         ensures count { result ≡ counted_by action range.now (day_of self.old).market.symbols (line_of line (day_of self.old)).records }
         ensures leaves { day_of self.new ≡ with_records (day_of self.old) line (marked_by action range.now (day_of self.old).market.symbols (line_of line (day_of self.old)).records) }
     {
