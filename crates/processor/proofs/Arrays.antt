@@ -1,21 +1,11 @@
--- The front of an array that is in use, and a line's part of the records.
+-- A line's part of all records, and what stands at an index of a list.
 use Rattle.std.proofs.Common.{◌≡◌, ℕ, zero, suc, ◌+◌, ◌*◌, ◌<◌, ◌≤◌, List, [], ◌∷◌, ◌++◌, length, get_or, take, drop, set, Some, sym, refl, ap, ◌∙◌, arith, take-append-drop, get_or-drop, get_or-take, drop-drop}
 use lib.Seq.{drop-set-add, set-append_left, take-set-le}
-use Rattle.std.proofs.lemmas.List.{get_or_default}
 use Rattle.lists.specs.Market.{at_index}
 use Rattle.day.specs.State.{part_of, with_part}
 use Rattle.day.proofs.Parts.{length_part}
 
 module _ {X : Type 0} where
-  pub take-set : (n : ℕ) (xs : List X) (i : ℕ) (x : X) → take n (set xs i x) ≡ set (take n xs) i x
-  take-set zero xs i x = refl
-  take-set (suc n) [] i x = refl
-  take-set (suc n) (y ∷ xs) zero x = refl
-  take-set (suc n) (y ∷ xs) (suc i) x = ap (λ ys. y ∷ ys) (take-set n xs i x)
-
-  pub read-front : (n : ℕ) (xs : List X) (i : ℕ) (d e : X) → i < n → length (take n xs) ≡ n → get_or xs i d ≡ get_or (take n xs) i e
-  read-front n xs i d e h long = sym (get_or-take n xs i d h) ∙ get_or_default (take n xs) i d e (rw long h)
-
   pub read-part : (width line : ℕ) (xs : List X) (place : ℕ) (d : X) → place < width → get_or xs (line * width + place) d ≡ get_or (part_of width line xs) place d
   read-part width line xs place d h = sym (get_or-take width (drop (line * width) xs) place d h ∙ get_or-drop (line * width) xs place d)
 

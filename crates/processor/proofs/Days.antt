@@ -5,7 +5,7 @@ use Rattle.processor.specs.declared.practice_day.Day.{Day}
 
 pub of_day : (day : Day) → Lawful (day_of day.floor)
 of_day day = record {
-  filled = day.filled;
+  filled = (day.floor.each_line, day.floor.each_security, day.floor.each_sheet, day.floor.each_record);
   frames = day.frames;
   ids = day.ids;
   centers = day.centers;

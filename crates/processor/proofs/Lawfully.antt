@@ -57,7 +57,6 @@ lawful d n securities centers sheets = record {
 
 pub kept : (d : Day) → Lawful d → Kept d
 kept d l = record {
-  whole = record { statuses = l.filled.0; securities = l.filled.1; sheets = l.filled.2; records = l.filled.3 };
   bounded = bounded d (numbered d l);
   centers = λ line place h k. l.sound_centers line place h;
   sheets = λ place h. l.sound_sheets place;

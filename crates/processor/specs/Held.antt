@@ -1,5 +1,5 @@
 -- What the processor holds, as the day that it is, and a day with something else at one place.
-use Rattle.std.specs.Prelude.{◌≡◌, ℕ, ◌*◌, ◌≤◌, List, ◌++◌, length, drop, replicate, Some, slice_set}
+use Rattle.std.specs.Prelude.{ℕ, List, ◌++◌, drop, replicate, Some, slice_set}
 use Rattle.lists.specs.Listed.{lines_of, securities_of}
 use Rattle.states.specs.declared.line_status.LineStatus.{LineStatus}
 use Rattle.states.specs.declared.security_status.SecurityStatus.{SecurityStatus}
@@ -8,7 +8,7 @@ use Rattle.stats.specs.declared.plain_sheet.PlainSheet.{PlainSheet}
 use Rattle.stats.specs.declared.record.MarketCenterRecord.{MarketCenterRecord}
 use Rattle.stats.specs.declared.sale.LastSale.{LastSale}
 use Rattle.verdicts.specs.declared.answer.Reason.{Reason}
-use Rattle.day.specs.State.{Day, Market, line_count, part_of, security_count, with_part}
+use Rattle.day.specs.State.{Day, Market, part_of, security_count, with_part}
 use Rattle.processor.specs.declared.floor.Floor.{Floor}
 
 abbrev pub day_of : Floor → Day
@@ -25,13 +25,6 @@ day_of f = record {
   sheets = f.sheets.items;
   serial = f.serial;
 }
-
--- a status for each line, a status and a sheet for each security, and a record for each line and security
-pub record Whole (d : Day) : Type 0 where
-  pub statuses : length d.statuses ≡ line_count d.market
-  pub securities : length d.market.securities ≡ security_count d.market
-  pub sheets : length d.sheets ≡ security_count d.market
-  pub records : line_count d.market * security_count d.market ≤ length d.records
 
 abbrev pub with_status : Day → ℕ → LineStatus → Day
 with_status d line status = record { market = d.market; statuses = slice_set d.statuses line status; records = d.records; sheets = d.sheets; serial = d.serial }

@@ -1,5 +1,6 @@
 // All that a practice day holds.
 ghost use Rattle.std.specs.Prelude.{◌≡◌, ◌*◌, ◌<◌, ◌≤◌, length, get_or};
+ghost use Rattle.lists.specs.Listed.{lines_of, securities_of};
 
 use arrayvec::ArrayVec;
 use lists::market_list::MarketList;
@@ -34,4 +35,8 @@ pub(crate) struct Floor<'a> {
     records: &'a mut [MarketCenterRecord],
     sheets: ArrayVec<PlainSheet<LastSale>, 256>,
     serial: u64,
+    ghost each_line: { length lines.items ≡ length (lines_of market) },
+    ghost each_security: { length securities.items ≡ length (securities_of market) },
+    ghost each_sheet: { length sheets.items ≡ length (securities_of market) },
+    ghost each_record: { length (lines_of market) * length (securities_of market) ≤ length records.now },
 }

@@ -1,13 +1,12 @@
 // A practice day.
 ghost use Rattle.processor.specs.Held.{day_of};
-ghost use Rattle.processor.specs.Lawful.{FewFrames, FewIds, FewPosted, FewTaken, Filled, SmallCenters, SmallSheets, SoundCenters, SoundSheets};
+ghost use Rattle.processor.specs.Lawful.{FewFrames, FewIds, FewPosted, FewTaken, SmallCenters, SmallSheets, SoundCenters, SoundSheets};
 
 use crate::floor::Floor;
 
 #[derive(Drop)]
 pub(crate) struct Day<'a> {
     floor: Floor<'a>,
-    ghost filled: { Filled (day_of floor) },
     ghost frames: { FewFrames (day_of floor) },
     ghost ids: { FewIds (day_of floor) },
     ghost centers: { SmallCenters (day_of floor) },

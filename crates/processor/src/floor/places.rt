@@ -5,7 +5,7 @@ ghost use Rattle.states.specs.SecurityStatus.{fresh_security};
 ghost use Rattle.day.specs.LineCalls.{record_at};
 ghost use Rattle.day.specs.Operator.{in_phase, status_at};
 ghost use Rattle.day.specs.State.{line_count, line_of, no_sheet, security_count};
-ghost use Rattle.processor.specs.Held.{Whole, day_of, with_market, with_record, with_security, with_sheet, with_status};
+ghost use Rattle.processor.specs.Held.{day_of, with_market, with_record, with_security, with_sheet, with_status};
 
 use crate::floor::Floor;
 use rows::context::Phase;
@@ -17,14 +17,14 @@ use stats::sale::LastSale;
 
 impl<'a> Floor<'a> {
     pub(crate) fn status(&self, line: usize) -> LineStatus
-        requires { (line < line_count (day_of self.now).market) × (Whole (day_of self.now)) }
+        requires { (line < line_count (day_of self.now).market) }
         ensures { result ≡ (line_of line (day_of self.now)).status }
     {
         self.lines[line]
     }
 
     pub(crate) fn set_status(&mut self, line: usize, status: LineStatus)
-        requires { line < length (day_of self.old).statuses }
+        requires { line < line_count (day_of self.old).market }
         ensures { day_of self.new ≡ with_status (day_of self.old) line status }
     {
         self.lines[line] = status;
@@ -32,7 +32,7 @@ impl<'a> Floor<'a> {
 
     // The index of a line's record of a security among all records.
     fn place(&self, line: usize, security: usize) -> usize
-        requires { (line < line_count (day_of self.now).market) × ((security < security_count (day_of self.now).market) × (Whole (day_of self.now))) }
+        requires { (line < line_count (day_of self.now).market) × ((security < security_count (day_of self.now).market)) }
         ensures value { result ≡ line * security_count (day_of self.now).market + security }
         ensures within { result < length self.now.records.now }
     {
@@ -40,14 +40,14 @@ impl<'a> Floor<'a> {
     }
 
     pub(crate) fn record(&self, line: usize, security: usize) -> MarketCenterRecord
-        requires { (line < line_count (day_of self.now).market) × ((security < security_count (day_of self.now).market) × (Whole (day_of self.now))) }
+        requires { (line < line_count (day_of self.now).market) × ((security < security_count (day_of self.now).market)) }
         ensures { result ≡ record_at (line_of line (day_of self.now)).records security }
     {
         self.records[self.place(line, security)]
     }
 
     pub(crate) fn set_record(&mut self, line: usize, security: usize, center: MarketCenterRecord)
-        requires { (line < line_count (day_of self.old).market) × ((security < security_count (day_of self.old).market) × (Whole (day_of self.old))) }
+        requires { (line < line_count (day_of self.old).market) × ((security < security_count (day_of self.old).market)) }
         ensures { day_of self.new ≡ with_record (day_of self.old) line security center }
     {
         let place = self.place(line, security);
@@ -55,14 +55,14 @@ impl<'a> Floor<'a> {
     }
 
     pub(crate) fn sheet(&self, security: usize) -> PlainSheet<LastSale>
-        requires { (security < security_count (day_of self.now).market) × (Whole (day_of self.now)) }
+        requires { (security < security_count (day_of self.now).market) }
         ensures { result ≡ slice_index_or (day_of self.now).sheets security no_sheet }
     {
         self.sheets[security]
     }
 
     pub(crate) fn set_sheet(&mut self, security: usize, sheet: PlainSheet<LastSale>, serial: u64)
-        requires { security < length (day_of self.old).sheets }
+        requires { security < security_count (day_of self.old).market }
         ensures { day_of self.new ≡ with_sheet (day_of self.old) security sheet serial }
     {
         self.sheets[security] = sheet;
@@ -70,14 +70,14 @@ impl<'a> Floor<'a> {
     }
 
     pub(crate) fn security(&self, security: usize) -> SecurityStatus
-        requires { (security < security_count (day_of self.now).market) × (Whole (day_of self.now)) }
+        requires { (security < security_count (day_of self.now).market) }
         ensures { result ≡ status_at (day_of self.now).market security }
     {
         self.securities[security]
     }
 
     pub(crate) fn set_security(&mut self, security: usize, status: SecurityStatus)
-        requires { security < length (day_of self.old).market.securities }
+        requires { security < security_count (day_of self.old).market }
         ensures { day_of self.new ≡ with_market (day_of self.old) (with_security (day_of self.old).market security status) }
     {
         self.securities[security] = status;

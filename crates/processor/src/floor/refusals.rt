@@ -1,7 +1,7 @@
 // Whether a call is refused, and by what: the first refusal that applies.
 ghost use Rattle.std.specs.Prelude.{◌≡◌};
 ghost use Rattle.day.specs.Call.{close_day, hang_up, log_in, open_day};
-ghost use Rattle.processor.specs.Held.{Whole, day_of};
+ghost use Rattle.processor.specs.Held.{day_of};
 ghost use Rattle.processor.specs.Bars.{allowed, inquire_bar, line_bar, operator_bar, post_bar, send_bar};
 
 use crate::floor::Floor;
@@ -20,7 +20,6 @@ const INQUIRY_ROOM: usize = 33;
 
 impl<'a> Floor<'a> {
     pub(crate) fn check_log_in(&self, line: usize) -> Result<(), Refusal>
-        requires { Whole (day_of self.now) }
         ensures { result ≡ allowed (line_bar (day_of self.now) line log_in) }
     {
         if line >= self.market.line_count() {
@@ -33,7 +32,6 @@ impl<'a> Floor<'a> {
     }
 
     pub(crate) fn check_hang_up(&self, line: usize) -> Result<(), Refusal>
-        requires { Whole (day_of self.now) }
         ensures { result ≡ allowed (line_bar (day_of self.now) line hang_up) }
     {
         if line >= self.market.line_count() || !self.status(line).logged_in {
@@ -43,7 +41,6 @@ impl<'a> Floor<'a> {
     }
 
     pub(crate) fn check_send(&self, line: usize, room: usize) -> Result<(), Refusal>
-        requires { Whole (day_of self.now) }
         ensures { result ≡ allowed (send_bar (day_of self.now) line room) }
     {
         self.check_hang_up(line)?;
@@ -66,7 +63,6 @@ impl<'a> Floor<'a> {
         symbol: &[u8],
         room: usize,
     ) -> Result<(), Refusal>
-        requires { Whole (day_of self.now) }
         ensures { result ≡ allowed (inquire_bar (day_of self.now) line symbol.now room) }
     {
         self.check_hang_up(line)?;
@@ -94,7 +90,6 @@ impl<'a> Floor<'a> {
     }
 
     pub(crate) fn check_post(&self, symbol: &[u8], action: PostedAction) -> Result<(), Refusal>
-        requires { Whole (day_of self.now) }
         ensures { result ≡ allowed (post_bar (day_of self.now) symbol.now action) }
     {
         let Some(security) = find(&self.market, symbol) else {

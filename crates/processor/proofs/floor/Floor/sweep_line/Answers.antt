@@ -16,7 +16,7 @@ unreachable-requires c =
     let symbols = securities_of c.args.self.now.market in
     let from = c.args.line * length symbols in
     let at = ap (λ n. c.args.line * n) c.security_count.ensures.value in
-    let end : from + length symbols ≤ length d.records = omega (arith, ends_before c.args.line (line_count d.market) (security_count d.market) c.requires.line_listed, c.requires.kept.whole.records) in
+    let end : from + length symbols ≤ length d.records = omega (arith, ends_before c.args.line (line_count d.market) (security_count d.market) c.requires.line_listed, c.args.self.now.each_record) in
     let told = sym c.in-None.is ∙ c.apply.ensures.count ∙ ap (λ k. sweep_tells c.args.action c.args.range.now symbols d.records k) at ∙ tells c.args.action c.args.range.now symbols d.records from end in
     let z : ◌≡◌ {A = ℕ} 0 1 = cc in
     absurd (omega arith)
@@ -27,7 +27,7 @@ returns c =
     let symbols = securities_of c.args.self.now.market in
     let from = c.args.line * length symbols in
     let at = ap (λ n. c.args.line * n) c.security_count.ensures.value in
-    let end : from + length symbols ≤ length d.records = omega (arith, ends_before c.args.line (line_count d.market) (security_count d.market) c.requires.line_listed, c.requires.kept.whole.records) in
+    let end : from + length symbols ≤ length d.records = omega (arith, ends_before c.args.line (line_count d.market) (security_count d.market) c.requires.line_listed, c.args.self.now.each_record) in
     let told = sym c.in-Some.is ∙ c.apply.ensures.count ∙ ap (λ k. sweep_tells c.args.action c.args.range.now symbols d.records k) at ∙ tells c.args.action c.args.range.now symbols d.records from end in
     let after =
     c.apply.ensures.after ∙ ap (λ k. sweep_leaves c.args.action c.args.range.now symbols d.records k) at ∙ leaves c.args.action c.args.range.now symbols d.records from end

@@ -14,4 +14,4 @@ pub invariant_of-self : goal.invariant_of-self
 invariant_of-self c =
     let day = c.args.self.now in
     let l = subst Lawful (sym (c.hang_up.ensures.leaves standard_sets)) (line_lawful standard_sets (day_of day.floor) c.args.ticket.line hang_up tt (of_day day)) in
-    record { filled = l.filled; frames = l.frames; ids = l.ids; centers = l.centers; sound_centers = l.sound_centers; posted = l.posted; serial = l.serial; sheets = l.sheets; sound_sheets = l.sound_sheets }
+    record { frames = l.frames; ids = l.ids; centers = l.centers; sound_centers = l.sound_centers; posted = l.posted; serial = l.serial; sheets = l.sheets; sound_sheets = l.sound_sheets }

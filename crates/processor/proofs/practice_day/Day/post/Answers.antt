@@ -15,4 +15,4 @@ invariant_of-self c =
     let day = c.args.self.now in
     let call = post c.args.symbol.now c.args.action in
     let l = subst Lawful (sym (c.post.ensures.leaves standard_sets)) (operator_lawful standard_sets (day_of day.floor) call (of_day day)) in
-    record { filled = l.filled; frames = l.frames; ids = l.ids; centers = l.centers; sound_centers = l.sound_centers; posted = l.posted; serial = l.serial; sheets = l.sheets; sound_sheets = l.sound_sheets }
+    record { frames = l.frames; ids = l.ids; centers = l.centers; sound_centers = l.sound_centers; posted = l.posted; serial = l.serial; sheets = l.sheets; sound_sheets = l.sound_sheets }

@@ -17,4 +17,4 @@ invariant_of-self g c =
     let call = send c.args.time c.args.frame.now (length c.args.buffer.now) in
     let bytes = All-from_get_or (λ b. b < 256) c.args.frame.now 0 (λ i h. omega (arith, c.type_inv.frame i)) in
     let l = subst Lawful (sym c.send.ensures.leaves) (line_lawful sets (day_of day.floor) c.args.ticket.now.line call bytes (of_day day)) in
-    record { filled = l.filled; frames = l.frames; ids = l.ids; centers = l.centers; sound_centers = l.sound_centers; posted = l.posted; serial = l.serial; sheets = l.sheets; sound_sheets = l.sound_sheets }
+    record { frames = l.frames; ids = l.ids; centers = l.centers; sound_centers = l.sound_centers; posted = l.posted; serial = l.serial; sheets = l.sheets; sound_sheets = l.sound_sheets }
