@@ -3,7 +3,7 @@ use Rattle.std.specs.Result.{result_ok}
 use Rattle.std.specs.Str.{bytes_eq}
 use Rattle.std.proofs.lemmas.List.{length-take-le}
 use Rattle.hex.specs.Hex.{decode_sized}
-use Rattle.std.proofs.lemmas.Bool.{le-leb, lt-leb, and_from, and_left, and_right, or_left}
+use Rattle.std.proofs.lemmas.Bool.{le-leb, lt-leb, and_from, and_right, or_left}
 use Rattle.std.proofs.lemmas.Slice.Eq.{bytes_eq-Decides}
 use Rattle.scripts.specs.Hex.{is_frame, pairs}
 use Rattle.scripts.proofs.Pairs.{frame_read, length_pairs}
@@ -30,13 +30,6 @@ returns-then-is_same c =
       answer = ap (λ bytes. Some (length bytes)) (sym empty) ∙ ap (told word) (sym yes);
       after = ap (λ bytes. bytes ++ drop (length bytes) buffer) (sym empty) ∙ ap (held word buffer) (sym yes);
     }
-
-pub returns-then-not-is_hex : goal.returns-then-not-is_hex
-returns-then-not-is_hex c =
-    let word = c.args.word.now in
-    let buffer = c.args.frame.now in
-    let no = and_left (is_frame word) (fits word buffer) (sym c.if-not-is_hex.ensures) in
-    record { answer = ap (told word) (sym no); after = ap (held word buffer) (sym no) }
 
 pub returns-then-frame-size : goal.returns-then-frame-size
 returns-then-frame-size c =
