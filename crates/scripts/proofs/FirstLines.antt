@@ -3,7 +3,9 @@ use Rattle.std.proofs.Common.{◌≡◌, ℕ, ◌<◌, true, false, cond, List, 
 use Rattle.std.proofs.lemmas.Bool.{cases_Bool, ne_eqb}
 use Rattle.cuts.specs.Cut.{first_part, has, past}
 use Rattle.cuts.proofs.Cuts.{parts_next, parts_none, parts_some, part_zero, past_none, past_shorter}
-use Rattle.scripts.specs.Lines.{lines_by, lines_of, Opens}
+use Rattle.std.proofs.lemmas.Iterator.{YieldsList}
+use Rattle.std.proofs.lemmas.Iterator.Consumers.{YieldsList-from_shown}
+use Rattle.scripts.specs.Lines.{lines_by, lines_of, Opens, GivesLine}
 
 ended_line : (script : List ℕ) → has 10 script ≡ true → lines_of script ≡ first_part 10 script ∷ lines_of (past 10 script)
 unfolding lines_by
@@ -40,6 +42,13 @@ opens script line rest some front behind = record {
   shorter = omega (arith, past_less script some, ap length behind);
 }
 
-pub no_lines : (script : List ℕ) → script ≡ [] → length (lines_of script) ≡ 0
+no_lines : (script : List ℕ) → script ≡ [] → length (lines_of script) ≡ 0
 unfolding lines_by
 no_lines script e = ap (λ s. length (lines_of s)) e
+
+-- the iterator gives the lines of what is left of its script
+pub gives_lines : (script : List ℕ) → YieldsList GivesLine (λ line. line.now) script (lines_of script)
+gives_lines script =
+    YieldsList-from_shown GivesLine (λ line. line.now) lines_of
+    (λ left rest ended. no_lines left ended.0)
+    (λ left line rest first. first.lines) script

@@ -1,4 +1,3 @@
 pub mod FirstLines
 pub mod Numerals
-pub mod Pairing
-pub mod Visible
+pub mod Pairs

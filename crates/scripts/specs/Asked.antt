@@ -20,8 +20,8 @@ pub data Asked : Type 0 where
 -- a call of the program, as data
 abbrev pub asked : ScriptCall → Asked
 asked (LogIn line) = log_in line
-asked (Send line time buffer hex) = send line time buffer hex.now
-asked (Inquire line time buffer symbol) = inquire line time buffer symbol
+asked (Send request hex) = send request.line request.time request.buffer hex.now
+asked (Inquire request symbol) = inquire request.line request.time request.buffer symbol
 asked (HangUp line) = hang_up line
 asked Open = open_day
 asked Close = close_day

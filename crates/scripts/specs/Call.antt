@@ -4,6 +4,7 @@ use Rattle.scripts.specs.declared.call_name.CallName.{CallName}
 use Rattle.scripts.specs.declared.call_name.CallName.TheVariants as name
 use Rattle.scripts.specs.declared.malformed.Malformed.{Malformed}
 use Rattle.scripts.specs.declared.malformed.Malformed.TheVariants.{UnknownCall}
+use Rattle.scripts.specs.declared.script_call.Request.{Request}
 use Rattle.scripts.specs.Asked.{Asked, log_in, send, inquire, hang_up, open_day, close_day, post, center_sheet, consolidated_sheet}
 use Rattle.scripts.specs.CallName.{name_in}
 use Rattle.scripts.specs.Word.{word_of, word_count}
@@ -12,6 +13,14 @@ use Rattle.scripts.specs.WordForm.{counted, and_then, line_word, ticket_word, ti
 -- `login LINE`
 abbrev pub log_in_of : List ℕ → Result Asked Malformed
 log_in_of line = counted 2 line (and_then (line_word (word_of 1 line)) (λ number. Ok (log_in number)))
+
+-- the words `LINE TIME BUFFER` past the name
+abbrev pub request_of : List ℕ → Result Request Malformed
+request_of line =
+    and_then (ticket_word (word_of 1 line)) (λ number.
+    and_then (time_word (word_of 2 line)) (λ time.
+    and_then (buffer_word (word_of 3 line)) (λ buffer.
+    Ok (record { line = number; time = time; buffer = buffer }))))
 
 -- `send LINE TIME BUFFER HEX`
 abbrev pub send_of : List ℕ → Result Asked Malformed

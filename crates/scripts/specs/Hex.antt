@@ -1,5 +1,6 @@
 -- A frame as a word: two hex digits to a byte, or `-` (45) for no byte at all.
-use Rattle.std.specs.Prelude.{ℕ, ◌+◌, ◌-◌, ◌*◌, ◌%◌, Bool, true, cond, ◌&&◌, ◌||◌, List, [], ◌∷◌, ◌++◌, length, drop, Some, None, codes, Option, ◌==◌, nat_le}
+use Rattle.std.specs.Prelude.{ℕ, ◌+◌, ◌-◌, ◌*◌, ◌%◌, Bool, cond, ◌&&◌, ◌||◌, List, [], ◌∷◌, ◌++◌, length, drop, Some, None, codes, Option, ◌==◌, nat_le}
+use Rattle.std.specs.List.{list_all}
 use Rattle.std.specs.Str.{bytes_eq}
 
 abbrev pub between : ℕ → ℕ → ℕ → Bool
@@ -14,8 +15,7 @@ abbrev pub digit_value : ℕ → ℕ
 digit_value b = cond (between 48 57 b) (b - 48) (cond (between 65 70 b) (b - 55) (cond (between 97 102 b) (b - 87) 0))
 
 abbrev pub all_hex : List ℕ → Bool
-all_hex [] = true
-all_hex (b ∷ bs) = hex_digit b && all_hex bs
+all_hex word = list_all hex_digit word
 
 -- the bytes that pairs of digits stand for, the high digit first
 unfoldable pub pairs : List ℕ → List ℕ

@@ -1,8 +1,10 @@
 // The names of calls, the first word of a line.
 ghost use Rattle.std.specs.Prelude.{◌≡◌};
 ghost use Rattle.scripts.specs.CallName.{name_in};
+ghost use Rattle.scripts.specs.WordForm.{formed};
+ghost use Rattle.scripts.specs.declared.malformed.Malformed.TheVariants.{UnknownCall};
 
-use cuts::cut::is_same;
+use crate::malformed::Malformed;
 
 #[derive(Clone, Copy)]
 pub(crate) enum CallName {
@@ -16,27 +18,22 @@ pub(crate) enum CallName {
     Sheet,
 }
 
-// The call of that name, if there is one.
-pub(crate) fn name_in(word: &[u8]) -> Option<CallName>
-    ensures { result ≡ name_in word.now }
-{
-    if is_same(word, b"login") {
-        Some(CallName::LogIn)
-    } else if is_same(word, b"send") {
-        Some(CallName::Send)
-    } else if is_same(word, b"inquire") {
-        Some(CallName::Inquire)
-    } else if is_same(word, b"hangup") {
-        Some(CallName::HangUp)
-    } else if is_same(word, b"open") {
-        Some(CallName::Open)
-    } else if is_same(word, b"close") {
-        Some(CallName::Close)
-    } else if is_same(word, b"post") {
-        Some(CallName::Post)
-    } else if is_same(word, b"sheet") {
-        Some(CallName::Sheet)
-    } else {
-        None
+impl TryFrom<&[u8]> for CallName {
+    type Error = Malformed;
+
+    ghost try_from_gives = { λ word outcome. outcome ≡ formed UnknownCall (name_in word.now) };
+
+    fn try_from(word: &[u8]) -> Result<CallName, Malformed> {
+        match word {
+            b"login" => Ok(CallName::LogIn),
+            b"send" => Ok(CallName::Send),
+            b"inquire" => Ok(CallName::Inquire),
+            b"hangup" => Ok(CallName::HangUp),
+            b"open" => Ok(CallName::Open),
+            b"close" => Ok(CallName::Close),
+            b"post" => Ok(CallName::Post),
+            b"sheet" => Ok(CallName::Sheet),
+            _ => Err(Malformed::UnknownCall),
+        }
     }
 }

@@ -2,7 +2,7 @@
 #![tactic(auto)]
 
 mod call_name;
-pub mod hex;
+pub mod hex_word;
 pub mod malformed;
 pub mod number;
 pub mod read_call;

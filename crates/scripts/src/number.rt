@@ -8,10 +8,7 @@ use std::str::from_utf8;
 fn has_prefix(word: &[u8]) -> bool
     ensures { result ≡ (slice_index word.now 0 == 43 || leading_zero word.now) }
 {
-    if word.is_empty() {
-        return false;
-    }
-    word[0] == b'+' || (word[0] == b'0' && word.len() > 1)
+    matches!(word, [b'+', ..] | [b'0', _, ..])
 }
 
 // The number below 2^64 whose decimal numeral the word is, if there is one.
@@ -23,8 +20,5 @@ pub fn number_in(word: &[u8]) -> Option<u64>
     if has_prefix(word) {
         return None;
     }
-    match from_utf8(word) {
-        Ok(text) => text.parse::<u64>().ok(),
-        Err(_) => None,
-    }
+    from_utf8(word).ok()?.parse().ok()
 }

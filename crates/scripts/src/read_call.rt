@@ -1,85 +1,80 @@
 // The call that a line of a script is.
 ghost use Rattle.std.specs.Prelude.{◌≡◌};
 ghost use Rattle.scripts.specs.Asked.{asked_in, asked_of};
-ghost use Rattle.scripts.specs.Call.{call_in, call_of, center_sheet_of, hang_up_of, inquire_of, log_in_of, passed_over, post_of, send_of, sheet_of};
+ghost use Rattle.scripts.specs.Call.{call_in, call_of, center_sheet_of, hang_up_of, inquire_of, log_in_of, passed_over, post_of, request_of, send_of, sheet_of};
 
-use crate::call_name::{CallName, name_in};
-use crate::hex::is_hex;
+use crate::call_name::CallName;
+use crate::hex_word::is_hex;
 use crate::malformed::Malformed;
-use crate::number::number_in;
-use crate::script_call::ScriptCall;
+use crate::script_call::{Request, ScriptCall};
 use crate::word::{word, word_count};
-use crate::word_form::{action_in, buffer_word, check_count, symbol_in, ticket_word};
+use crate::word_form::{
+    action_word, buffer_word, check_count, line_word, symbol_word, ticket_word, time_word,
+};
 
 fn read_log_in(line: &[u8]) -> Result<ScriptCall<'_>, Malformed>
     ensures { asked_of result ≡ log_in_of line.now }
 {
     check_count(line, 2)?;
-    let number = number_in(word(line, 1)).ok_or(Malformed::LineNumber)?;
-    Ok(ScriptCall::LogIn(number))
+    Ok(ScriptCall::LogIn(line_word(word(line, 1))?))
+}
+
+// The three words in front of what is sent or inquired.
+fn read_request(line: &[u8]) -> Result<Request, Malformed>
+    ensures { result ≡ request_of line.now }
+{
+    Ok(Request {
+        line: ticket_word(word(line, 1))?,
+        time: time_word(word(line, 2))?,
+        buffer: buffer_word(word(line, 3))?,
+    })
 }
 
 fn read_send(line: &[u8]) -> Result<ScriptCall<'_>, Malformed>
     ensures { asked_of result ≡ send_of line.now }
 {
     check_count(line, 5)?;
-    let number = ticket_word(word(line, 1))?;
-    let time = number_in(word(line, 2)).ok_or(Malformed::Time)?;
-    let buffer = buffer_word(word(line, 3))?;
+    let request = read_request(line)?;
     let hex = word(line, 4);
     if !is_hex(hex) {
         return Err(Malformed::Hex);
     }
-    Ok(ScriptCall::Send {
-        line: number,
-        time,
-        buffer,
-        hex,
-    })
+    Ok(ScriptCall::Send { request, hex })
 }
 
 fn read_inquire(line: &[u8]) -> Result<ScriptCall<'_>, Malformed>
     ensures { asked_of result ≡ inquire_of line.now }
 {
     check_count(line, 5)?;
-    let number = ticket_word(word(line, 1))?;
-    let time = number_in(word(line, 2)).ok_or(Malformed::Time)?;
-    let buffer = buffer_word(word(line, 3))?;
-    let symbol = symbol_in(word(line, 4)).ok_or(Malformed::SymbolWord)?;
-    Ok(ScriptCall::Inquire {
-        line: number,
-        time,
-        buffer,
-        symbol,
-    })
+    let request = read_request(line)?;
+    let symbol = symbol_word(word(line, 4))?;
+    Ok(ScriptCall::Inquire { request, symbol })
 }
 
 fn read_hang_up(line: &[u8]) -> Result<ScriptCall<'_>, Malformed>
     ensures { asked_of result ≡ hang_up_of line.now }
 {
     check_count(line, 2)?;
-    let number = ticket_word(word(line, 1))?;
-    Ok(ScriptCall::HangUp(number))
+    Ok(ScriptCall::HangUp(ticket_word(word(line, 1))?))
 }
 
 fn read_post(line: &[u8]) -> Result<ScriptCall<'_>, Malformed>
     ensures { asked_of result ≡ post_of line.now }
 {
     check_count(line, 3)?;
-    let symbol = symbol_in(word(line, 1)).ok_or(Malformed::SymbolWord)?;
-    let action = action_in(word(line, 2)).ok_or(Malformed::Action)?;
-    Ok(ScriptCall::Post { symbol, action })
+    Ok(ScriptCall::Post {
+        symbol: symbol_word(word(line, 1))?,
+        action: action_word(word(line, 2))?,
+    })
 }
 
 fn read_center_sheet(line: &[u8]) -> Result<ScriptCall<'_>, Malformed>
     ensures { asked_of result ≡ center_sheet_of line.now }
 {
     check_count(line, 3)?;
-    let number = number_in(word(line, 1)).ok_or(Malformed::LineNumber)?;
-    let symbol = symbol_in(word(line, 2)).ok_or(Malformed::SymbolWord)?;
     Ok(ScriptCall::CenterSheet {
-        line: number,
-        symbol,
+        line: line_word(word(line, 1))?,
+        symbol: symbol_word(word(line, 2))?,
     })
 }
 
@@ -90,7 +85,7 @@ fn read_sheet(line: &[u8]) -> Result<ScriptCall<'_>, Malformed>
     if word_count(line) != 2 {
         return read_center_sheet(line);
     }
-    let symbol = symbol_in(word(line, 1)).ok_or(Malformed::SymbolWord)?;
+    let symbol = symbol_word(word(line, 1))?;
     Ok(ScriptCall::ConsolidatedSheet { symbol })
 }
 
@@ -98,22 +93,15 @@ fn read_sheet(line: &[u8]) -> Result<ScriptCall<'_>, Malformed>
 fn read_words(line: &[u8]) -> Result<ScriptCall<'_>, Malformed>
     ensures { asked_of result ≡ call_of line.now }
 {
-    match name_in(word(line, 0)) {
-        Some(CallName::LogIn) => read_log_in(line),
-        Some(CallName::Send) => read_send(line),
-        Some(CallName::Inquire) => read_inquire(line),
-        Some(CallName::HangUp) => read_hang_up(line),
-        Some(CallName::Open) => {
-            check_count(line, 1)?;
-            Ok(ScriptCall::Open)
-        }
-        Some(CallName::Close) => {
-            check_count(line, 1)?;
-            Ok(ScriptCall::Close)
-        }
-        Some(CallName::Post) => read_post(line),
-        Some(CallName::Sheet) => read_sheet(line),
-        None => Err(Malformed::UnknownCall),
+    match CallName::try_from(word(line, 0))? {
+        CallName::LogIn => read_log_in(line),
+        CallName::Send => read_send(line),
+        CallName::Inquire => read_inquire(line),
+        CallName::HangUp => read_hang_up(line),
+        CallName::Open => check_count(line, 1).and(Ok(ScriptCall::Open)),
+        CallName::Close => check_count(line, 1).and(Ok(ScriptCall::Close)),
+        CallName::Post => read_post(line),
+        CallName::Sheet => read_sheet(line),
     }
 }
 
@@ -121,7 +109,7 @@ fn read_words(line: &[u8]) -> Result<ScriptCall<'_>, Malformed>
 fn is_passed_over(line: &[u8]) -> bool
     ensures { result ≡ passed_over line.now }
 {
-    line.is_empty() || line[0] == b'#'
+    matches!(line, [] | [b'#', ..])
 }
 
 // The call that a line is, none where the line is passed over, or what is wrong with it, from the front on. The line is
@@ -132,6 +120,5 @@ pub fn read_call(line: &[u8]) -> Result<Option<ScriptCall<'_>>, Malformed>
     if is_passed_over(line) {
         return Ok(None);
     }
-    let call = read_words(line)?;
-    Ok(Some(call))
+    Ok(Some(read_words(line)?))
 }

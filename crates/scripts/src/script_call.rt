@@ -2,21 +2,25 @@
 use states::security_status::PostedAction;
 use text::symbol::Symbol;
 
-#[derive(Clone, Copy)]
+// What a call on a ticket says in front: the ticket's line, a SIP time, and a buffer of so many bytes.
+#[derive(Clone, Copy, PartialEq, Eq)]
+pub struct Request {
+    pub line: u8,
+    pub time: u64,
+    pub buffer: u16,
+}
+
+#[derive(Clone, Copy, PartialEq, Eq)]
 pub enum ScriptCall<'a> {
     // the number of a line of the day, whether there is such a line or not
     LogIn(u64),
-    // a frame in hex, at a SIP time, with a buffer of so many bytes
+    // a frame in hex
     Send {
-        line: u8,
-        time: u64,
-        buffer: u16,
+        request: Request,
         hex: &'a [u8],
     },
     Inquire {
-        line: u8,
-        time: u64,
-        buffer: u16,
+        request: Request,
         symbol: Symbol,
     },
     HangUp(u8),

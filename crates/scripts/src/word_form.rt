@@ -1,14 +1,12 @@
 // The forms of a call's words, and what is wrong with a word that has not its form.
 ghost use Rattle.std.specs.Prelude.{◌≡◌, Ok};
-ghost use Rattle.scripts.specs.WordForm.{action_in, buffer_word, counted, ticket_word};
-ghost use Rattle.sheets.specs.Forms.{all_visible, symbol_by};
+ghost use Rattle.scripts.specs.WordForm.{action_word, buffer_word, counted, line_word, symbol_word, ticket_word, time_word};
+ghost use Rattle.sheets.specs.Forms.{all_visible};
 
 use crate::malformed::Malformed;
 use crate::number::number_in;
 use crate::word::word_count;
-use cuts::cut::{contains, is_same};
 use states::security_status::PostedAction;
-use text::printable::all_printable;
 use text::symbol::{Symbol, padded};
 
 pub(crate) fn check_count(line: &[u8], number: usize) -> Result<(), Malformed>
@@ -20,54 +18,63 @@ pub(crate) fn check_count(line: &[u8], number: usize) -> Result<(), Malformed>
     Ok(())
 }
 
+// The number of a line of the day, whether there is such a line or not.
+pub(crate) fn line_word(word: &[u8]) -> Result<u64, Malformed>
+    ensures { result ≡ line_word word.now }
+{
+    number_in(word).ok_or(Malformed::LineNumber)
+}
+
 // The number of a line that a ticket can be of: a day has at most 16 lines.
 pub(crate) fn ticket_word(word: &[u8]) -> Result<u8, Malformed>
     ensures { result ≡ ticket_word word.now }
 {
-    match number_in(word) {
-        Some(n) if n < 16 => Ok(n as u8),
-        _ => Err(Malformed::LineNumber),
-    }
+    number_in(word)
+        .and_then(|n| u8::try_from(n).ok())
+        .filter(|n| *n < 16)
+        .ok_or(Malformed::LineNumber)
+}
+
+pub(crate) fn time_word(word: &[u8]) -> Result<u64, Malformed>
+    ensures { result ≡ time_word word.now }
+{
+    number_in(word).ok_or(Malformed::Time)
 }
 
 pub(crate) fn buffer_word(word: &[u8]) -> Result<u16, Malformed>
     ensures { result ≡ buffer_word word.now }
 {
-    match number_in(word) {
-        Some(n) if n < 65536 => Ok(n as u16),
-        _ => Err(Malformed::Buffer),
-    }
+    number_in(word)
+        .and_then(|n| u16::try_from(n).ok())
+        .ok_or(Malformed::Buffer)
 }
 
-// Whether every byte is printable, and none a space.
-fn is_visible(word: &[u8]) -> bool
+// Whether every byte can be seen: printable, and no space.
+fn all_visible(word: &[u8]) -> bool
     ensures { result ≡ all_visible word.now }
 {
-    all_printable(word) && !contains(word, b' ')
+    word.iter().all(|byte| byte.is_ascii_graphic())
 }
 
 // A word as a symbol: 1 to 11 visible bytes.
-pub(crate) fn symbol_in(word: &[u8]) -> Option<Symbol>
-    ensures { result ≡ symbol_by word.now }
+pub(crate) fn symbol_word(word: &[u8]) -> Result<Symbol, Malformed>
+    ensures { result ≡ symbol_word word.now }
 {
-    if !is_visible(word) {
-        return None;
+    if !all_visible(word) {
+        return Err(Malformed::SymbolWord);
     }
-    padded(word)
+    padded(word).ok_or(Malformed::SymbolWord)
 }
 
-pub(crate) fn action_in(word: &[u8]) -> Option<PostedAction>
-    ensures { result ≡ action_in word.now }
+// An action is the type of a crate below, so that this is a function, and no `TryFrom`.
+pub(crate) fn action_word(word: &[u8]) -> Result<PostedAction, Malformed>
+    ensures { result ≡ action_word word.now }
 {
-    if is_same(word, b"halt") {
-        Some(PostedAction::Halt)
-    } else if is_same(word, b"pause") {
-        Some(PostedAction::Pause)
-    } else if is_same(word, b"quote") {
-        Some(PostedAction::Quote)
-    } else if is_same(word, b"trade") {
-        Some(PostedAction::Trade)
-    } else {
-        None
+    match word {
+        b"halt" => Ok(PostedAction::Halt),
+        b"pause" => Ok(PostedAction::Pause),
+        b"quote" => Ok(PostedAction::Quote),
+        b"trade" => Ok(PostedAction::Trade),
+        _ => Err(Malformed::Action),
     }
 }

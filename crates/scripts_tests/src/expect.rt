@@ -1,63 +1,47 @@
 // What a line is expected to be read as.
 use cuts::cut::is_same;
-use scripts::hex::decode;
+use scripts::hex_word::decode;
 use scripts::malformed::Malformed;
 use scripts::read_call::read_call;
-use scripts::script_call::ScriptCall;
+use scripts::script_call::{Request, ScriptCall};
 use states::security_status::PostedAction;
 use std::process::Abort;
 use std::test::Fail;
 use text::symbol::Symbol;
 
-pub(crate) fn is_malformed(rt: &impl Abort, text: &[u8], fault: Malformed) -> Result<(), Fail> {
-    match read_call(text) {
-        Err(told) => {
-            assert_eq!(rt; told, fault);
-            Ok(())
-        },
-        Ok(_) => Err(Fail::new("the line was read")),
+fn is_read_as(text: &[u8], wanted: Result<Option<ScriptCall<'_>>, Malformed>) -> Result<(), Fail> {
+    if read_call(text) != wanted {
+        return Err(Fail::new("the line was read otherwise"));
     }
+    Ok(())
+}
+
+fn calls(text: &[u8], wanted: ScriptCall<'_>) -> Result<(), Fail> {
+    is_read_as(text, Ok(Some(wanted)))
+}
+
+pub(crate) fn is_malformed(text: &[u8], fault: Malformed) -> Result<(), Fail> {
+    is_read_as(text, Err(fault))
 }
 
 pub(crate) fn is_passed_over(text: &[u8]) -> Result<(), Fail> {
-    match read_call(text) {
-        Ok(None) => Ok(()),
-        _ => Err(Fail::new("the line was not passed over")),
-    }
+    is_read_as(text, Ok(None))
 }
 
-pub(crate) fn logs_in(rt: &impl Abort, text: &[u8], number: u64) -> Result<(), Fail> {
-    match read_call(text) {
-        Ok(Some(ScriptCall::LogIn(line))) => {
-            assert_eq!(rt; line, number);
-            Ok(())
-        },
-        _ => Err(Fail::new("the line does not log in")),
-    }
+pub(crate) fn logs_in(text: &[u8], line: u64) -> Result<(), Fail> {
+    calls(text, ScriptCall::LogIn(line))
 }
 
-pub(crate) fn hangs_up(rt: &impl Abort, text: &[u8], number: u8) -> Result<(), Fail> {
-    match read_call(text) {
-        Ok(Some(ScriptCall::HangUp(line))) => {
-            assert_eq!(rt; line, number);
-            Ok(())
-        },
-        _ => Err(Fail::new("the line does not hang up")),
-    }
+pub(crate) fn hangs_up(text: &[u8], line: u8) -> Result<(), Fail> {
+    calls(text, ScriptCall::HangUp(line))
 }
 
 pub(crate) fn opens(text: &[u8]) -> Result<(), Fail> {
-    match read_call(text) {
-        Ok(Some(ScriptCall::Open)) => Ok(()),
-        _ => Err(Fail::new("the line does not open the day")),
-    }
+    calls(text, ScriptCall::Open)
 }
 
 pub(crate) fn closes(text: &[u8]) -> Result<(), Fail> {
-    match read_call(text) {
-        Ok(Some(ScriptCall::Close)) => Ok(()),
-        _ => Err(Fail::new("the line does not close the day")),
-    }
+    calls(text, ScriptCall::Close)
 }
 
 pub(crate) fn decodes(rt: &impl Abort, hex: &[u8], frame: &[u8]) -> Result<(), Fail> {
@@ -73,90 +57,54 @@ pub(crate) fn decodes(rt: &impl Abort, hex: &[u8], frame: &[u8]) -> Result<(), F
 pub(crate) fn sends(
     rt: &impl Abort,
     text: &[u8],
-    number: u8,
-    at: u64,
-    room: u16,
+    line: u8,
+    time: u64,
+    buffer: u16,
     frame: &[u8],
 ) -> Result<(), Fail> {
-    let Ok(
-        Some(
-            ScriptCall::Send {
-                line,
-                time,
-                buffer,
-                hex,
-            },
-        ),
-    ) = read_call(text)
-    else {
+    let Ok(Some(ScriptCall::Send { request, hex })) = read_call(text) else {
         return Err(Fail::new("the line does not send"));
     };
-    assert_eq!(rt; line, number);
-    assert_eq!(rt; time, at);
-    assert_eq!(rt; buffer, room);
+    assert!(rt; request == Request { line, time, buffer });
     decodes(rt, hex, frame)
 }
 
 pub(crate) fn inquires(
-    rt: &impl Abort,
     text: &[u8],
-    number: u8,
-    at: u64,
-    room: u16,
-    name: &Symbol,
+    line: u8,
+    time: u64,
+    buffer: u16,
+    symbol: &Symbol,
 ) -> Result<(), Fail> {
-    let Ok(
-        Some(
-            ScriptCall::Inquire {
-                line,
-                time,
-                buffer,
-                symbol,
-            },
-        ),
-    ) = read_call(text)
-    else {
-        return Err(Fail::new("the line does not inquire"));
-    };
-    assert_eq!(rt; line, number);
-    assert_eq!(rt; time, at);
-    assert_eq!(rt; buffer, room);
-    assert!(rt; is_same(&symbol, name));
-    Ok(())
+    calls(
+        text,
+        ScriptCall::Inquire {
+            request: Request { line, time, buffer },
+            symbol: *symbol,
+        },
+    )
 }
 
-pub(crate) fn posts(
-    rt: &impl Abort,
-    text: &[u8],
-    name: &Symbol,
-    what: PostedAction,
-) -> Result<(), Fail> {
-    let Ok(Some(ScriptCall::Post { symbol, action })) = read_call(text) else {
-        return Err(Fail::new("the line does not post"));
-    };
-    assert!(rt; is_same(&symbol, name));
-    assert!(rt; action == what);
-    Ok(())
+pub(crate) fn posts(text: &[u8], symbol: &Symbol, action: PostedAction) -> Result<(), Fail> {
+    calls(
+        text,
+        ScriptCall::Post {
+            symbol: *symbol,
+            action,
+        },
+    )
 }
 
-pub(crate) fn asks_center(
-    rt: &impl Abort,
-    text: &[u8],
-    number: u64,
-    name: &Symbol,
-) -> Result<(), Fail> {
-    let Ok(Some(ScriptCall::CenterSheet { line, symbol })) = read_call(text) else {
-        return Err(Fail::new("the line asks for no market center's sheet"));
-    };
-    assert_eq!(rt; line, number);
-    assert!(rt; is_same(&symbol, name));
-    Ok(())
+pub(crate) fn asks_center(text: &[u8], line: u64, symbol: &Symbol) -> Result<(), Fail> {
+    calls(
+        text,
+        ScriptCall::CenterSheet {
+            line,
+            symbol: *symbol,
+        },
+    )
 }
 
-pub(crate) fn asks_consolidated(rt: &impl Abort, text: &[u8], name: &Symbol) -> Result<(), Fail> {
-    let Ok(Some(ScriptCall::ConsolidatedSheet { symbol })) = read_call(text) else {
-        return Err(Fail::new("the line does not ask for the consolidated sheet"));
-    };
-    assert!(rt; is_same(&symbol, name));
-    Ok(())
+pub(crate) fn asks_consolidated(text: &[u8], symbol: &Symbol) -> Result<(), Fail> {
+    calls(text, ScriptCall::ConsolidatedSheet { symbol: *symbol })
 }

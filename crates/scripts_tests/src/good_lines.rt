@@ -15,17 +15,17 @@ fn empty_lines_and_comments_are_passed_over() -> Result<(), Fail> {
 }
 
 #[test]
-fn any_line_may_be_logged_in_to(rt: HostRuntime) -> Result<(), Fail> {
-    logs_in(&rt, b"login 0", 0)?;
-    logs_in(&rt, b"login 16", 16)?;
-    logs_in(&rt, b"login 18446744073709551615", u64::MAX)
+fn any_line_may_be_logged_in_to() -> Result<(), Fail> {
+    logs_in(b"login 0", 0)?;
+    logs_in(b"login 16", 16)?;
+    logs_in(b"login 18446744073709551615", u64::MAX)
 }
 
 #[test]
-fn a_ticket_is_of_0_to_15(rt: HostRuntime) -> Result<(), Fail> {
-    hangs_up(&rt, b"hangup 0", 0)?;
-    hangs_up(&rt, b"hangup 9", 9)?;
-    hangs_up(&rt, b"hangup 15", 15)
+fn a_ticket_is_of_0_to_15() -> Result<(), Fail> {
+    hangs_up(b"hangup 0", 0)?;
+    hangs_up(b"hangup 9", 9)?;
+    hangs_up(b"hangup 15", 15)
 }
 
 #[test]
@@ -56,41 +56,34 @@ fn a_frame_is_sent(rt: HostRuntime) -> Result<(), Fail> {
 }
 
 #[test]
-fn a_security_is_inquired_after(rt: HostRuntime) -> Result<(), Fail> {
-    inquires(&rt, b"inquire 0 0 0 A", 0, 0, 0, b"A          ")?;
+fn a_security_is_inquired_after() -> Result<(), Fail> {
+    inquires(b"inquire 0 0 0 A", 0, 0, 0, b"A          ")?;
     inquires(
-        &rt,
         b"inquire 15 18446744073709551615 65535 ABCDEFGHIJK",
         15,
         u64::MAX,
         65535,
         b"ABCDEFGHIJK",
     )?;
-    inquires(&rt, b"inquire 7 5 33 !,~", 7, 5, 33, b"!,~        ")
+    inquires(b"inquire 7 5 33 !,~", 7, 5, 33, b"!,~        ")
 }
 
 #[test]
-fn four_actions_are_posted(rt: HostRuntime) -> Result<(), Fail> {
-    posts(&rt, b"post ZVZZT halt", b"ZVZZT      ", PostedAction::Halt)?;
-    posts(
-        &rt,
-        b"post ZVZZT pause",
-        b"ZVZZT      ",
-        PostedAction::Pause,
-    )?;
-    posts(&rt, b"post halt quote", b"halt       ", PostedAction::Quote)?;
-    posts(&rt, b"post - trade", b"-          ", PostedAction::Trade)
+fn four_actions_are_posted() -> Result<(), Fail> {
+    posts(b"post ZVZZT halt", b"ZVZZT      ", PostedAction::Halt)?;
+    posts(b"post ZVZZT pause", b"ZVZZT      ", PostedAction::Pause)?;
+    posts(b"post halt quote", b"halt       ", PostedAction::Quote)?;
+    posts(b"post - trade", b"-          ", PostedAction::Trade)
 }
 
 #[test]
-fn sheets_are_asked_for(rt: HostRuntime) -> Result<(), Fail> {
-    asks_center(&rt, b"sheet 0 A", 0, b"A          ")?;
+fn sheets_are_asked_for() -> Result<(), Fail> {
+    asks_center(b"sheet 0 A", 0, b"A          ")?;
     asks_center(
-        &rt,
         b"sheet 18446744073709551615 ABCDEFGHIJK",
         u64::MAX,
         b"ABCDEFGHIJK",
     )?;
-    asks_consolidated(&rt, b"sheet A", b"A          ")?;
-    asks_consolidated(&rt, b"sheet 0", b"0          ")
+    asks_consolidated(b"sheet A", b"A          ")?;
+    asks_consolidated(b"sheet 0", b"0          ")
 }

@@ -1,6 +1,6 @@
 // Scripts, line by line.
 use cuts::cut::is_same;
-use scripts::script_lines::{first_line, line_count};
+use scripts::script_lines::{Lines, line_count};
 use std::test::Fail;
 
 #[test]
@@ -21,18 +21,19 @@ fn empty_lines_are_counted(rt: HostRuntime) {
 
 #[test]
 fn lines_come_one_by_one(rt: HostRuntime) -> Result<(), Fail> {
-    let Some(first) = first_line(b"open\n\nclose") else {
+    let mut lines = Lines::new(b"open\n\nclose");
+    let Some(first) = lines.next() else {
         return Err(Fail::new("there is no line"));
     };
-    assert!(rt; is_same(first.line, b"open"));
-    let Some(second) = first_line(first.rest) else {
+    assert!(rt; is_same(first, b"open"));
+    let Some(second) = lines.next() else {
         return Err(Fail::new("there is no second line"));
     };
-    assert!(rt; second.line.is_empty());
-    let Some(third) = first_line(second.rest) else {
+    assert!(rt; second.is_empty());
+    let Some(third) = lines.next() else {
         return Err(Fail::new("there is no third line"));
     };
-    assert!(rt; is_same(third.line, b"close"));
-    assert!(rt; first_line(third.rest).is_none());
+    assert!(rt; is_same(third, b"close"));
+    assert!(rt; lines.next().is_none());
     Ok(())
 }

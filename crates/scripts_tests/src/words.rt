@@ -1,7 +1,7 @@
 // Numbers and frames by themselves, and what is told of a bad line.
 use crate::expect::decodes;
 use cuts::cut::is_same;
-use scripts::hex::{decode, is_hex};
+use scripts::hex_word::{decode, is_hex};
 use scripts::malformed::Malformed;
 use scripts::number::number_in;
 use std::test::Fail;
@@ -61,11 +61,9 @@ fn a_short_buffer_is_left_alone(rt: HostRuntime) {
 
 #[test]
 fn faults_are_told_in_words(rt: HostRuntime) {
-    assert!(rt; is_same(Malformed::UnknownCall.words(), b"no call has this name"));
-    assert!(rt;
-        is_same(
-            Malformed::Hex.words(),
-            b"the frame is neither - nor an even number of hex digits",
-        )
+    assert_eq!(rt; Malformed::UnknownCall.words(), "no call has this name");
+    assert_eq!(rt;
+        Malformed::Hex.words(),
+        "the frame is neither - nor an even number of hex digits"
     );
 }
