@@ -16,10 +16,7 @@ use wire::trade_report::TradeReport;
 fn first_originator(market: &MarketList) -> [u8; 2]
     ensures { Some result ≡ at_index (lines_of market.now) 0 }
 {
-    match market.originator(0) {
-        Some(originator) => originator,
-        None => unreachable(),
-    }
+    market.originators()[0]
 }
 
 // What the processor knows when a frame comes. No recording says when that is, so no action time is too late.
@@ -53,6 +50,6 @@ pub(crate) fn answer_to<B: CodeBook>(
     let context = context_of(frame, market, start);
     match judge(frame, &context, book) {
         Ok(_) => Answer::Taken(0),
-        Err(verdict) => Answer::Failed(verdict),
+        Err(verdict) => Answer::from(verdict),
     }
 }
