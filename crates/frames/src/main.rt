@@ -72,7 +72,7 @@ fn main(rt: HostRuntime) -> anyhow::Result<()> {
     let mut args = env::args(&rt)?;
     let _program = args.next();
     let Some(path) = args.next() else {
-        return print_recording(&rt, &RECORDING);
+        return print_recording(&rt, RECORDING);
     };
     if args.next().is_some() {
         eprintln!(rt; "usage: frames [FILE]")?;

@@ -16,21 +16,19 @@ use fault_text::print_fault;
 use files::input::{contents, cut_short};
 use files::sheet::{book_rows, list_rows};
 use lists::market_list::MarketList;
-use open_day::answer_to;
+use open_day::OpenDay;
 use start_time::start_time;
 use std::{env, fs};
 use wire::frames::Frames;
 
 fn print_answers<B: CodeBook>(
     rt: &HostRuntime,
-    market: &MarketList,
-    start: u64,
-    book: &B,
+    day: &OpenDay<B>,
     recording: &[u8],
 ) -> anyhow::Result<()> {
     for frame in Frames::of(recording) {
         match frame {
-            Ok(frame) => print_answer(rt, &answer_to(frame, market, start, book))?,
+            Ok(frame) => print_answer(rt, &day.answer_to(frame))?,
             Err(short) => return cut_short(rt, "judge", short),
         }
     }
@@ -56,8 +54,12 @@ fn judge_by_sheet(
 ) -> anyhow::Result<()> {
     match book_rows(rt.alloc(), sheet)? {
         Ok(rows) => {
-            let book = SheetBook::of_rows(rows.as_slice());
-            print_answers(rt, market, start, &book, recording)
+            let day = OpenDay {
+                market,
+                start,
+                book: &SheetBook::of_rows(rows.as_slice()),
+            };
+            print_answers(rt, &day, recording)
         }
         Err(fault) => {
             print_fault(rt, "book", fault)?;
@@ -93,7 +95,12 @@ fn judge_files(
     let market = market_of(rt, list.as_slice())?;
     if book == "standard" {
         let recording = read(rt, file)?;
-        return print_answers(rt, &market, start, &StandardBook, recording.as_slice());
+        let day = OpenDay {
+            market: &market,
+            start,
+            book: &StandardBook,
+        };
+        return print_answers(rt, &day, recording.as_slice());
     }
     let book = read(rt, book)?;
     let recording = read(rt, file)?;

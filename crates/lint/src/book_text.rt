@@ -16,12 +16,9 @@ fn print_set<Name: Display + Drop, Test: Fn(u8) -> bool + Drop>(
 ) -> anyhow::Result<()>
     requires { Test.IsAlwaysCallable accepts }
 {
-    let mut bytes = Vec::new(rt.alloc());
-    for byte in 0..=u8::MAX {
-        if accepts(byte) {
-            bytes.push(byte)?;
-        }
-    }
+    let bytes: Vec<u8> = (0..=u8::MAX)
+        .filter(|byte| accepts(*byte))
+        .collect(rt.alloc())?;
     let bytes = Quoted(bytes.as_slice());
     println!(rt; "  {name} {bytes}")?;
     Ok(())
