@@ -2,9 +2,9 @@
 ghost use Rattle.std.specs.Prelude.{◌≡◌, IsErr, MatchResult};
 
 use anyhow::anyhow;
-use show::cut::part_cut;
+use show::cut::CutText;
 use std::io;
-use wire::recording::Cut;
+use wire::frames::CutShort;
 
 // Hands on what was read of a file; where it could not be read, says so and fails.
 pub fn contents(
@@ -24,11 +24,11 @@ pub fn contents(
     }
 }
 
-// Says at which byte a recording is cut, and fails.
-pub fn cut_short(rt: &HostRuntime, program: &str, cut: Cut, at: usize) -> anyhow::Result<()>
+// Says where a recording is cut, and fails.
+pub fn cut_short(rt: &HostRuntime, program: &str, short: CutShort) -> anyhow::Result<()>
     ensures { IsErr result }
 {
-    let part = part_cut(cut);
-    eprintln!(rt; "{program}: the recording ends inside {part} at byte {at}")?;
+    let text = CutText(short);
+    eprintln!(rt; "{program}: {text}")?;
     Err(anyhow!("cut"))
 }

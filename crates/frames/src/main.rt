@@ -11,10 +11,11 @@ use files::input::{contents, cut_short};
 use recording::RECORDING;
 use report_text::print_report;
 use std::{env, fs};
+use wire::frames::Frames;
 use wire::header::HeaderRow;
-use wire::recording::front_frame;
 use wire::trade_report::TradeReport;
 
+// A function: `HeaderRow` is of a crate below, and a type of this one round it would print these same words.
 fn rule(row: HeaderRow) -> &'static str {
     match row {
         HeaderRow::Version =>
@@ -40,7 +41,7 @@ fn print_frame(
             Ok(true)
         }
         Err(row) => {
-            let n = row.number();
+            let n = u16::from(row);
             let why = rule(row);
             println!(rt; "frame {number}, {size} bytes: no trade report, row {n} fails: {why}")?;
             Ok(false)
@@ -50,19 +51,17 @@ fn print_frame(
 
 fn print_recording(rt: &HostRuntime, bytes: &[u8]) -> anyhow::Result<()> {
     let mut board = Board::new(rt.alloc());
-    let mut at = 0;
     let mut frames: u64 = 0;
     let mut reports: u64 = 0;
-    while at < bytes.len() {
-        match front_frame(&bytes[at..]) {
+    for frame in Frames::of(bytes) {
+        match frame {
             Ok(frame) => {
                 frames = frames.saturating_add(1);
                 if print_frame(rt, frames, frame, &mut board)? {
                     reports = reports.saturating_add(1);
                 }
-                at += 2 + frame.len();
             }
-            Err(cut) => return cut_short(rt, "frames", cut, at),
+            Err(short) => return cut_short(rt, "frames", short),
         }
     }
     println!(rt; "{frames} frames, {reports} trade reports")?;
@@ -73,7 +72,7 @@ fn main(rt: HostRuntime) -> anyhow::Result<()> {
     let mut args = env::args(&rt)?;
     let _program = args.next();
     let Some(path) = args.next() else {
-        return print_recording(&rt, &RECORDING);
+        return print_recording(&rt, RECORDING);
     };
     if args.next().is_some() {
         eprintln!(rt; "usage: frames [FILE]")?;

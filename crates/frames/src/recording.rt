@@ -2,7 +2,7 @@
 // number in every field, and the others each fail a row of the header (a byte short, another kind, another version, empty).
 // One source line for each field: the length in front of the frame, version, kind and originator, timestamp1, feed
 // sequence, participant token, timestamp2, symbol, trade id, exempt flag and sale condition, seller days, side, price, volume.
-pub const RECORDING: [u8; 667] = *b"\
+pub(crate) const RECORDING: &[u8] = b"\
     \x00\x48\
     1TEQU\
     \x18\x79\x20\x42\xb6\xdb\x10\x00\

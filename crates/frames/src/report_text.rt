@@ -1,40 +1,40 @@
 // A trade report as text, a line for each field.
 use conditions::condition::effects;
 use conditions::matrix::Says;
-use show::quoted::quoted;
+use show::quoted::Quoted;
+use std::fmt::Display;
 use text::symbol::unpadded;
 use wire::trade_report::TradeReport;
 
-fn print_bytes(rt: &HostRuntime, name: &str, bytes: &[u8]) -> anyhow::Result<()> {
-    let text = quoted(rt.alloc(), bytes)?;
-    println!(rt; "  {name:<18}{text}")?;
-    Ok(())
-}
-
-fn print_number(rt: &HostRuntime, name: &str, n: u64) -> anyhow::Result<()> {
-    println!(rt; "  {name:<18}{n}")?;
+fn print_field<Value: Display + Drop>(
+    rt: &HostRuntime,
+    name: &str,
+    value: Value,
+) -> anyhow::Result<()> {
+    println!(rt; "  {name:<18}{value}")?;
     Ok(())
 }
 
 fn print_header(rt: &HostRuntime, report: &TradeReport) -> anyhow::Result<()> {
-    print_bytes(rt, "originator", &report.originator)?;
-    print_number(rt, "timestamp1", report.timestamp1)?;
-    print_number(rt, "feed sequence", report.feed_sequence)?;
-    print_number(rt, "participant token", report.participant_token)
+    print_field(rt, "originator", Quoted(&report.originator))?;
+    print_field(rt, "timestamp1", report.timestamp1)?;
+    print_field(rt, "feed sequence", report.feed_sequence)?;
+    print_field(rt, "participant token", report.participant_token)
 }
 
 fn print_trade(rt: &HostRuntime, report: &TradeReport) -> anyhow::Result<()> {
-    print_number(rt, "timestamp2", report.timestamp2)?;
-    print_bytes(rt, "symbol", unpadded(&report.symbol))?;
-    print_number(rt, "trade id", report.trade_id as u64)?;
-    print_bytes(rt, "exempt flag", &[report.exempt_flag])?;
-    print_bytes(rt, "sale condition", &report.condition)?;
-    print_number(rt, "seller days", report.seller_days as u64)?;
-    print_bytes(rt, "side", &[report.side])?;
-    print_number(rt, "price", report.price)?;
-    print_number(rt, "volume", report.volume as u64)
+    print_field(rt, "timestamp2", report.timestamp2)?;
+    print_field(rt, "symbol", Quoted(unpadded(&report.symbol)))?;
+    print_field(rt, "trade id", report.trade_id)?;
+    print_field(rt, "exempt flag", Quoted(&[report.exempt_flag]))?;
+    print_field(rt, "sale condition", Quoted(&report.condition))?;
+    print_field(rt, "seller days", report.seller_days)?;
+    print_field(rt, "side", Quoted(&[report.side]))?;
+    print_field(rt, "price", report.price)?;
+    print_field(rt, "volume", report.volume)
 }
 
+// A function: `Says` is of a crate below, and a type of this one round it would print these same words.
 fn says_text(says: Says) -> &'static str {
     match says {
         Says::Yes => "Yes",
@@ -43,18 +43,25 @@ fn says_text(says: Says) -> &'static str {
     }
 }
 
+// What a sale condition says to the high, low and last of a sheet.
+fn print_prices(rt: &HostRuntime, name: &str, high_low: Says, last: Says) -> anyhow::Result<()> {
+    let high_low = says_text(high_low);
+    let last = says_text(last);
+    println!(rt; "  {name:<18}high/low {high_low}, last {last}")?;
+    Ok(())
+}
+
 // What the sale condition says to the sheets.
 fn print_effects(rt: &HostRuntime, condition: [u8; 4]) -> anyhow::Result<()> {
     let said = effects(condition);
-    let high_low = says_text(said.consolidated_high_low);
-    let last = says_text(said.consolidated_last);
-    println!(rt; "  {:<18}high/low {high_low}, last {last}", "consolidated")?;
-    let high_low = says_text(said.center_high_low);
-    let last = says_text(said.center_last);
-    println!(rt; "  {:<18}high/low {high_low}, last {last}", "market center")?;
-    let counts = says_text(said.volume);
-    println!(rt; "  {:<18}{counts}", "counts for volume")?;
-    Ok(())
+    print_prices(
+        rt,
+        "consolidated",
+        said.consolidated_high_low,
+        said.consolidated_last,
+    )?;
+    print_prices(rt, "market center", said.center_high_low, said.center_last)?;
+    print_field(rt, "counts for volume", says_text(said.volume))
 }
 
 // Prints the fields, writes the report again, and says whether that gives the frame.
@@ -73,6 +80,5 @@ pub(crate) fn print_report(
     } else {
         "other bytes"
     };
-    println!(rt; "  {:<18}{verdict}", "written again")?;
-    Ok(())
+    print_field(rt, "written again", verdict)
 }

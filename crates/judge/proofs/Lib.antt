@@ -1,2 +1,1 @@
-mod FirstLine
 mod Times

@@ -1,5 +1,5 @@
 // An answer as a line: letter, code and row, and what they mean in words.
-use verdicts::answer::{Answer, Verdict};
+use verdicts::answer::Answer;
 use words::rule::rule_broken;
 
 pub(crate) fn print_answer(rt: &HostRuntime, answer: &Answer) -> anyhow::Result<()> {
@@ -9,12 +9,12 @@ pub(crate) fn print_answer(rt: &HostRuntime, answer: &Answer) -> anyhow::Result<
     print!(rt; "{letter},{code},{row} ")?;
     match answer {
         Answer::Taken(_) => println!(rt; "taken")?,
-        Answer::Failed(Verdict::PassedOver) => println!(rt; "passed over")?,
-        Answer::Failed(Verdict::Rejected(reason)) => {
+        Answer::PassedOver => println!(rt; "passed over")?,
+        Answer::Rejected(reason) => {
             let rule = rule_broken(reason.row);
             println!(rt; "rejected: {rule}")?;
         }
-        Answer::Failed(Verdict::Cut(reason)) => {
+        Answer::Cut(reason) => {
             let rule = rule_broken(reason.row);
             println!(rt; "cut: {rule}")?;
         }

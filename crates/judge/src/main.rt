@@ -12,45 +12,34 @@ use anyhow::anyhow;
 use books::code_book::CodeBook;
 use books::sheet_book::SheetBook;
 use books::standard_book::StandardBook;
-use codes::book_row::BookRow;
-use codes::book_sheet::read_book;
 use fault_text::print_fault;
 use files::input::{contents, cut_short};
-use lists::list_row::ListRow;
-use lists::list_sheet::read_list;
+use files::sheet::{book_rows, list_rows};
 use lists::market_list::MarketList;
-use open_day::answer_to;
+use open_day::OpenDay;
 use start_time::start_time;
 use std::{env, fs};
-use wire::recording::front_frame;
+use wire::frames::Frames;
 
 fn print_answers<B: CodeBook>(
     rt: &HostRuntime,
-    market: &MarketList,
-    start: u64,
-    book: &B,
+    day: &OpenDay<B>,
     recording: &[u8],
 ) -> anyhow::Result<()> {
-    let mut at = 0;
-    while at < recording.len() {
-        match front_frame(&recording[at..]) {
-            Ok(frame) => {
-                print_answer(rt, &answer_to(frame, market, start, book))?;
-                at += 2 + frame.len();
-            }
-            Err(cut) => return cut_short(rt, "judge", cut, at),
+    for frame in Frames::of(recording) {
+        match frame {
+            Ok(frame) => print_answer(rt, &day.answer_to(frame))?,
+            Err(short) => return cut_short(rt, "judge", short),
         }
     }
     Ok(())
 }
 
 fn market_of(rt: &HostRuntime, sheet: &[u8]) -> anyhow::Result<MarketList> {
-    // 256 securities and 16 lines, which no list sheet passes
-    let mut table = [ListRow::Line(*b"  "); 272];
-    match read_list(sheet, &mut table) {
-        Ok(n) => Ok(MarketList::of_rows(&table[0..n])),
+    match list_rows(rt.alloc(), sheet)? {
+        Ok(rows) => Ok(MarketList::of_rows(rows.as_slice())),
         Err(fault) => {
-            print_fault(rt, "list", &fault)?;
+            print_fault(rt, "list", fault)?;
             Err(anyhow!("fault"))
         }
     }
@@ -63,17 +52,17 @@ fn judge_by_sheet(
     sheet: &[u8],
     recording: &[u8],
 ) -> anyhow::Result<()> {
-    let mut table = [BookRow::Flag(b' '); 256];
-    match read_book(sheet, &mut table) {
-        Ok(n) => print_answers(
-            rt,
-            market,
-            start,
-            &SheetBook::of_rows(&table[0..n]),
-            recording,
-        ),
+    match book_rows(rt.alloc(), sheet)? {
+        Ok(rows) => {
+            let day = OpenDay {
+                market,
+                start,
+                book: &SheetBook::of_rows(rows.as_slice()),
+            };
+            print_answers(rt, &day, recording)
+        }
         Err(fault) => {
-            print_fault(rt, "book", &fault)?;
+            print_fault(rt, "book", fault)?;
             Err(anyhow!("fault"))
         }
     }
@@ -106,7 +95,12 @@ fn judge_files(
     let market = market_of(rt, list.as_slice())?;
     if book == "standard" {
         let recording = read(rt, file)?;
-        return print_answers(rt, &market, start, &StandardBook, recording.as_slice());
+        let day = OpenDay {
+            market: &market,
+            start,
+            book: &StandardBook,
+        };
+        return print_answers(rt, &day, recording.as_slice());
     }
     let book = read(rt, book)?;
     let recording = read(rt, file)?;

@@ -3,94 +3,77 @@ use crate::fault_text::print_fault;
 use books::code_book::CodeBook;
 use books::sheet_book::SheetBook;
 use codes::book_row::BookRow;
-use codes::book_sheet::read_book;
+use files::sheet::book_rows;
 use sheets::bucket::Bucket;
-use show::quoted::quoted;
+use show::quoted::Quoted;
+use std::fmt::Display;
 
-fn print_set(rt: &HostRuntime, name: &str, bytes: &[u8]) -> anyhow::Result<()> {
-    let bytes = quoted(rt.alloc(), bytes)?;
+// Prints the bytes that a book accepts.
+fn print_set<Name: Display + Drop, Test: Fn(u8) -> bool + Drop>(
+    rt: &HostRuntime,
+    name: Name,
+    accepts: Test,
+) -> anyhow::Result<()>
+    requires { Test.IsAlwaysCallable accepts }
+{
+    let bytes: Vec<u8> = (0..=u8::MAX)
+        .filter(|byte| accepts(*byte))
+        .collect(rt.alloc())?;
+    let bytes = Quoted(bytes.as_slice());
     println!(rt; "  {name} {bytes}")?;
     Ok(())
 }
 
-fn print_flags<B: CodeBook>(rt: &HostRuntime, book: &B) -> anyhow::Result<()> {
-    let mut flags = Vec::new(rt.alloc());
-    for byte in 0..=255u8 {
-        if book.accepts_flag(byte) {
-            flags.push(byte)?;
-        }
-    }
-    print_set(rt, "flags", flags.as_slice())
-}
-
-fn print_sides<B: CodeBook>(rt: &HostRuntime, book: &B) -> anyhow::Result<()> {
-    let mut sides = Vec::new(rt.alloc());
-    for byte in 0..=255u8 {
-        if book.accepts_side(byte) {
-            sides.push(byte)?;
-        }
-    }
-    print_set(rt, "sides", sides.as_slice())
-}
-
-fn print_values<B: CodeBook>(
-    rt: &HostRuntime,
-    book: &B,
-    name: &str,
-    bucket: Bucket,
-) -> anyhow::Result<()> {
-    let mut values = Vec::new(rt.alloc());
-    for byte in 0..=255u8 {
-        if book.accepts_value(bucket, byte) {
-            values.push(byte)?;
-        }
-    }
-    print_set(rt, name, values.as_slice())
-}
-
 fn print_sets<B: CodeBook>(rt: &HostRuntime, book: &B) -> anyhow::Result<()> {
-    print_flags(rt, book)?;
-    print_sides(rt, book)?;
-    print_values(rt, book, "bucket 1", Bucket::One)?;
-    print_values(rt, book, "bucket 2", Bucket::Two)?;
-    print_values(rt, book, "bucket 3", Bucket::Three)?;
-    print_values(rt, book, "bucket 4", Bucket::Four)
+    print_set(rt, "flags", |byte| book.accepts_flag(byte))?;
+    print_set(rt, "sides", |byte| book.accepts_side(byte))?;
+    for bucket in Bucket::ALL {
+        let digit = char::from(u8::from(bucket));
+        print_set(rt, format_args!("bucket {digit}"), |byte| {
+            book.accepts_value(bucket, byte)
+        })?;
+    }
+    Ok(())
 }
 
 fn print_row(rt: &HostRuntime, row: &BookRow) -> anyhow::Result<()> {
     match row {
-        BookRow::Flag(flag) => print_set(rt, "flag", &[*flag]),
-        BookRow::Side(side) => print_set(rt, "side", &[*side]),
+        BookRow::Flag(flag) => {
+            let flag = Quoted(&[*flag]);
+            println!(rt; "  flag {flag}")?;
+        }
+        BookRow::Side(side) => {
+            let side = Quoted(&[*side]);
+            println!(rt; "  side {side}")?;
+        }
         BookRow::Value(bucket, value) => {
-            let value = quoted(rt.alloc(), &[*value])?;
-            let bucket = char::from(u8::from(*bucket));
-            println!(rt; "  value {value} in bucket {bucket}")?;
-            Ok(())
+            let value = Quoted(&[*value]);
+            let digit = char::from(u8::from(*bucket));
+            println!(rt; "  value {value} in bucket {digit}")?;
         }
         BookRow::Barred(flag, value) => {
-            let flag = quoted(rt.alloc(), &[*flag])?;
-            let value = quoted(rt.alloc(), &[*value])?;
+            let flag = Quoted(&[*flag]);
+            let value = Quoted(&[*value]);
             println!(rt; "  flag {flag} barred with value {value}")?;
-            Ok(())
         }
     }
+    Ok(())
 }
 
 // Prints a book sheet or its first fault, and says whether it is faultless.
 pub(crate) fn check_book(rt: &HostRuntime, text: &[u8]) -> anyhow::Result<bool> {
-    let mut table = [BookRow::Flag(b' '); 256];
-    match read_book(text, &mut table) {
-        Ok(n) => {
-            println!(rt; "book: rows {n}")?;
-            for row in &table[0..n] {
+    match book_rows(rt.alloc(), text)? {
+        Ok(rows) => {
+            println!(rt; "book: rows {}", rows.len())?;
+            for row in &rows {
                 print_row(rt, row)?;
             }
             println!(rt; "sets of the book:")?;
-            print_sets(rt, &SheetBook::of_rows(&table[0..n]))?;
+            print_sets(rt, &SheetBook::of_rows(rows.as_slice()))?;
             Ok(true)
         }
         Err(fault) => {
-            print_fault(rt, "book", text, &fault)?;
+            print_fault(rt, "book", text, fault)?;
             Ok(false)
         }
     }

@@ -1,10 +1,11 @@
 // A fault of a sheet, with the line that it stands in and a mark under the field.
-use cuts::cut::{after_first, first_part};
+use cuts::cut::{after_first, part};
 use sheets::cause::Cause;
 use sheets::fault::Fault;
-use show::layer::layer_name;
-use show::quoted::quoted;
+use show::fault::FaultText;
+use show::quoted::Quoted;
 
+// A function: `Cause` is of a crate below, and a type of this one round it would print these same words.
 fn rule_text(cause: Cause) -> &'static str {
     match cause {
         Cause::Unended => "a line has no byte 10 at its end",
@@ -19,46 +20,36 @@ fn rule_text(cause: Cause) -> &'static str {
     }
 }
 
-// A part of a text, counted from 1.
-fn part(text: &[u8], separator: u8, number: usize) -> &[u8] {
-    first_part(rest_from(text, separator, number), separator)
-}
-
-// What a text holds from a part on.
-fn rest_from(text: &[u8], separator: u8, number: usize) -> &[u8] {
+// What a text holds from a part on, counted from 0.
+fn rest_from(text: &[u8], separator: u8, index: usize) -> &[u8] {
     let mut rest = text;
-    for _ in 1..number {
+    for _ in 0..index {
         rest = after_first(rest, separator);
     }
     rest
 }
 
 fn print_mark(rt: &HostRuntime, indent: usize, width: usize) -> anyhow::Result<()> {
-    for _ in 0..indent {
-        print!(rt; " ")?;
-    }
-    for _ in 0..width.max(1) {
-        print!(rt; "^")?;
-    }
-    println!(rt; "")?;
+    let width = width.max(1);
+    println!(rt; "{:indent$}{:^<width$}", "", "")?;
     Ok(())
 }
 
 // How many characters some bytes take between their quotes.
 fn shown(rt: &HostRuntime, bytes: &[u8]) -> anyhow::Result<usize> {
-    let text = quoted(rt.alloc(), bytes)?;
+    let text = Quoted(bytes).to_string(rt.alloc())?;
     Ok(text.len().saturating_sub(2))
 }
 
 fn print_line(rt: &HostRuntime, line: &[u8], field: u8) -> anyhow::Result<()> {
-    let text = quoted(rt.alloc(), line)?;
+    let text = Quoted(line);
     println!(rt; "  {text}")?;
     let all = shown(rt, line)?;
-    if field == 0 {
+    let Some(index) = field.checked_sub(1) else {
         return print_mark(rt, 3, all);
-    }
-    let rest = shown(rt, rest_from(line, b',', field as usize))?;
-    let width = shown(rt, part(line, b',', field as usize))?;
+    };
+    let rest = shown(rt, rest_from(line, b',', usize::from(index)))?;
+    let width = shown(rt, part(line, b',', usize::from(index)))?;
     print_mark(rt, all.saturating_sub(rest).saturating_add(3), width)
 }
 
@@ -66,17 +57,16 @@ pub(crate) fn print_fault(
     rt: &HostRuntime,
     sheet: &str,
     text: &[u8],
-    fault: &Fault,
+    fault: Fault,
 ) -> anyhow::Result<()> {
-    let cause = u16::from(fault.cause);
+    let told = FaultText(fault);
     let why = rule_text(fault.cause);
-    let layer = layer_name(fault.layer);
+    println!(rt; "{sheet}: {told}: {why}")?;
     let line = fault.line;
-    let field = fault.field;
-    println!(rt; "{sheet}: {cause}, {layer} layer, line {line}, field {field}: {why}")?;
-    if rest_from(text, b'\n', line).is_empty() {
+    let index = line.saturating_sub(1);
+    if rest_from(text, b'\n', index).is_empty() {
         println!(rt; "  the sheet ends before line {line}")?;
         return Ok(());
     }
-    print_line(rt, part(text, b'\n', line), field)
+    print_line(rt, part(text, b'\n', index), fault.field)
 }

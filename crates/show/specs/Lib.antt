@@ -1,3 +1,3 @@
-pub mod CutWords
-pub mod LayerName
+pub mod CutText
+pub mod FaultText
 pub mod Quoted

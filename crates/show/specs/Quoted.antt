@@ -1,5 +1,6 @@
 -- Bytes as text that a terminal can show.
 use Rattle.std.specs.Prelude.{ℕ, ◌+◌, ◌/◌, ◌%◌, Bool, cond, not, ◌&&◌, List, [], ◌∷◌, ◌++◌, codes, ◌==◌, nat_lt}
+use Rattle.std.specs.List.{flat_map}
 use Rattle.text.specs.Printable.{printable}
 
 -- a byte that stands for itself: printable, and neither a double quote nor a backslash
@@ -13,9 +14,5 @@ hex_digit n = cond (nat_lt n 10) (48 + n) (87 + n)
 abbrev pub escaped : ℕ → List ℕ
 escaped b = cond (plain b) (b ∷ []) (codes "\\x" ++ (hex_digit (b / 16) ∷ []) ++ (hex_digit (b % 16) ∷ []))
 
-unfoldable pub escaped_all : List ℕ → List ℕ
-escaped_all [] = []
-escaped_all (b ∷ bs) = escaped b ++ escaped_all bs
-
 abbrev pub quoted_text : List ℕ → List ℕ
-quoted_text bs = codes "\"" ++ escaped_all bs ++ codes "\""
+quoted_text bs = codes "\"" ++ flat_map escaped bs ++ codes "\""

@@ -1,9 +1,14 @@
 // Bytes of a frame or a sheet as text that a terminal can show.
-ghost use Rattle.std.specs.Prelude.{◌≡◌, ◌<◌, ◌++◌, IfOk, string_bytes, OnOk};
-ghost use Rattle.show.specs.Quoted.{escaped, hex_digit, plain, quoted_text};
+ghost use Rattle.std.specs.Prelude.{◌≡◌, Some};
+ghost use Rattle.std.specs.Fmt.{WritesOnOk};
+ghost use Rattle.show.specs.Quoted.{escaped, plain, quoted_text};
 
-use std::alloc::{AllocError, Global};
+use std::fmt;
 use text::printable::is_printable;
+
+// The bytes between double quotes. A byte that is not printable, a quote or a backslash is written as \x and two digits.
+#[derive(Clone, Copy)]
+pub struct Quoted<'a>(pub &'a [u8]);
 
 // Whether a byte stands for itself between quotes.
 fn is_plain(byte: u8) -> bool
@@ -12,33 +17,24 @@ fn is_plain(byte: u8) -> bool
     is_printable(byte) && byte != b'"' && byte != b'\\'
 }
 
-fn hex_digit(n: u8) -> u8
-    requires { n < 16 }
-    ensures { result ≡ hex_digit n }
-{
-    if n < 10 { b'0' + n } else { b'a' + (n - 10) }
-}
-
-fn push_escaped(text: &mut String, byte: u8) -> Result<(), AllocError>
-    ensures { OnOk result (string_bytes text.new ≡ string_bytes text.old ++ escaped byte) }
+fn write_escaped<W: fmt::Write>(f: &mut fmt::Formatter<W>, byte: u8) -> fmt::Result
+    ensures { WritesOnOk W.write_str_gives f.old result (escaped byte) f.new }
 {
     if is_plain(byte) {
-        return text.push(char::from(byte));
+        f.write_char(char::from(byte))
+    } else {
+        write!(f, "\\x{byte:02x}")
     }
-    text.push_str("\\x")?;
-    text.push(char::from(hex_digit(byte / 16)))?;
-    text.push(char::from(hex_digit(byte % 16)))?;
-    Ok(())
 }
 
-// The bytes between double quotes. A byte that is not printable, a quote or a backslash is written as \x and two digits.
-pub fn quoted(heap: Global, bytes: &[u8]) -> Result<String, AllocError>
-    ensures { IfOk result (λ text. string_bytes text ≡ quoted_text bytes.now) }
-{
-    let mut text = String::from_str(heap, "\"")?;
-    for byte in bytes {
-        push_escaped(&mut text, *byte)?;
+impl<'a> fmt::Display for Quoted<'a> {
+    ghost output = { λ shown. Some (quoted_text shown.0.now) };
+
+    fn fmt<W: fmt::Write>(&self, f: &mut fmt::Formatter<W>) -> fmt::Result {
+        f.write_str("\"")?;
+        for byte in self.0 {
+            write_escaped(f, *byte)?;
+        }
+        f.write_str("\"")
     }
-    text.push('"')?;
-    Ok(text)
 }

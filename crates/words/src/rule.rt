@@ -1,4 +1,5 @@
-// The rule that a frame breaks where a row fails.
+// The rule that a frame breaks where a row fails. Functions: the rows are of crates below, and types of this one round them would print
+// these same words.
 ghost use Rattle.std.specs.Prelude.{◌≡◌};
 ghost use Rattle.words.specs.RuleWords.{header_words, mass_action_words, rule_words, trade_words};
 
