@@ -20,7 +20,7 @@ fn rule_text(cause: Cause) -> &'static str {
     }
 }
 
-// What a text holds from a part on, counted from 0.
+// What a text holds from a part on, counted from 0. A loop: an iterator over parts would lose what stands past them.
 fn rest_from(text: &[u8], separator: u8, index: usize) -> &[u8] {
     let mut rest = text;
     for _ in 0..index {
