@@ -1,11 +1,11 @@
 // The forms of a call's words, and what is wrong with a word that has not its form.
 ghost use Rattle.std.specs.Prelude.{◌≡◌, Ok};
 ghost use Rattle.scripts.specs.WordForm.{action_word, buffer_word, counted, line_word, symbol_word, ticket_word, time_word};
-ghost use Rattle.sheets.specs.Forms.{all_visible};
 
 use crate::malformed::Malformed;
 use crate::number::number_in;
 use crate::word::word_count;
+use sheets::field_layer::all_visible;
 use states::security_status::PostedAction;
 use text::symbol::{Symbol, padded};
 
@@ -47,13 +47,6 @@ pub(crate) fn buffer_word(word: &[u8]) -> Result<u16, Malformed>
     number_in(word)
         .and_then(|n| u16::try_from(n).ok())
         .ok_or(Malformed::Buffer)
-}
-
-// Whether every byte can be seen: printable, and no space.
-fn all_visible(word: &[u8]) -> bool
-    ensures { result ≡ all_visible word.now }
-{
-    word.iter().all(|byte| byte.is_ascii_graphic())
 }
 
 // A word as a symbol: 1 to 11 visible bytes.

@@ -36,7 +36,7 @@ pub fn bucket_field(line: &[u8], number: u8) -> Result<Bucket, FieldFault>
 }
 
 // Whether every byte can be seen: printable, and no space.
-fn all_visible(text: &[u8]) -> bool
+pub fn all_visible(text: &[u8]) -> bool
     ensures { result ≡ all_visible text.now }
 {
     text.iter().all(|byte| byte.is_ascii_graphic())

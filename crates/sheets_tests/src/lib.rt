@@ -10,4 +10,6 @@ mod line_layer;
 #[cfg(test)]
 mod market;
 #[cfg(test)]
+mod own_memory;
+#[cfg(test)]
 mod sheet_layer;
