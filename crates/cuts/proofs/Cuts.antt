@@ -1,5 +1,5 @@
 -- Laws of a text and its parts.
-use Rattle.std.proofs.Common.{◌≡◌, ℕ, zero, suc, ◌+◌, ◌<◌, ◌≤◌, Bool, true, false, ◌||◌, not, cond, eqb, ltb, List, [], ◌∷◌, length, get_or, drop, sym, refl, ap, ◌∙◌, inl, inr, arith, length-drop}
+use Rattle.std.proofs.Common.{◌≡◌, ℕ, suc, ◌+◌, ◌<◌, ◌≤◌, Bool, true, false, ◌||◌, not, cond, eqb, ltb, List, [], ◌∷◌, length, get_or, drop, sym, refl, ap, ◌∙◌, inl, inr, arith, length-drop}
 use Rattle.std.specs.List.{onto_first, position_or_len}
 use Rattle.std.proofs.lemmas.List.{drop_all, take_all}
 use Rattle.std.proofs.lemmas.List.Splits.{slice_split_first}
@@ -71,14 +71,4 @@ pub part_zero : (sep : ℕ) (xs : List ℕ) → get_or (parts sep xs) 0 [] ≡ f
 part_zero sep xs = elim (cases_Bool (has sep xs)) [
   | inl e ↦ ap (λ ps. get_or ps 0 []) (parts_next sep xs e)
   | inr e ↦ ap (λ ps. get_or ps 0 []) (parts_none sep xs e) ∙ sym (first_none sep xs e)
-]
-
-past_nil : (k : ℕ) → get_or {A = List ℕ} ([] ∷ []) k [] ≡ []
-past_nil zero = refl
-past_nil (suc k) = refl
-
-pub part_suc : (sep : ℕ) (xs : List ℕ) (k : ℕ) → get_or (parts sep xs) (suc k) [] ≡ get_or (parts sep (past sep xs)) k []
-part_suc sep xs k = elim (cases_Bool (has sep xs)) [
-  | inl e ↦ ap (λ ps. get_or ps (suc k) []) (parts_next sep xs e)
-  | inr e ↦ ap (λ ps. get_or ps (suc k) []) (parts_none sep xs e) ∙ sym (ap (λ ys. get_or (parts sep ys) k []) (past_none sep xs e) ∙ past_nil k)
 ]

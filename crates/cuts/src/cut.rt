@@ -36,28 +36,20 @@ pub fn after_first(text: &[u8], separator: u8) -> &[u8]
     }
 }
 
-fn separator_count(text: &[u8], separator: u8) -> usize
-    ensures { result ≡ count_by (λ byte. byte == separator) text.now }
-{
-    text.iter().filter(|byte| **byte == separator).count()
-}
-
 // How many parts a text has: one more than its separators.
 pub fn part_count(text: &[u8], separator: u8) -> usize
     ensures { result ≡ length (parts separator text.now) }
 {
-    separator_count(text, separator) + 1
+    text.split(|byte| *byte == separator).count()
 }
 
 // A part of a text, counted from 0; empty where the text has fewer.
 pub fn part(text: &[u8], separator: u8, index: usize) -> &[u8]
     ensures { result.now ≡ part_at separator index text.now }
 {
-    let mut rest = text;
-    for _ in 0..index {
-        rest = after_first(rest, separator);
-    }
-    first_part(rest, separator)
+    text.split(|byte| *byte == separator)
+        .nth(index)
+        .unwrap_or(b"")
 }
 
 // How many fields a line has: one more than its commas.

@@ -1,6 +1,7 @@
-use Rattle.std.proofs.Common.{◌==◌, arith}
-use Rattle.std.proofs.lemmas.List.Splits.{length-slice_split}
+use Rattle.std.proofs.Common.{◌==◌, rules, tests}
+use Rattle.std.proofs.lemmas.Iterator.Consumers.{count_from_yields_List}
+use Rattle.std.proofs.lemmas.Iterator.Splits.{YieldsList-from_slice_split}
 use Rattle.cuts.proofs.cut.part_count.Goals as goal
 
 pub returns : goal.returns
-returns c = let h = length-slice_split (λ b. b == c.args.separator) c.args.text.now in omega arith
+returns c = count_from_yields_List c.split.result c.count.result c.count.ensures.ran (YieldsList-from_slice_split _ (λ b. b == c.args.separator) c.args.text.now c.split.ensures.rest c.split.ensures.done c.split.ensures.closure (λ x r q k. search (rules, tests)))
