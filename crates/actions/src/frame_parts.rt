@@ -3,7 +3,7 @@ ghost use Rattle.std.specs.Prelude.{◌≡◌, length};
 
 use wire::number::Number;
 
-// A frame that is as long as a mass trading action.
+// A frame that is as long as a mass trading action. A trade report's has the same constructor, and no other part in common.
 #[derive(Drop)]
 pub(crate) struct MassFrame<'a> {
     bytes: &'a [u8],

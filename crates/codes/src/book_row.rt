@@ -26,6 +26,7 @@ fn code_row<F: Fn(u8) -> BookRow>(line: &[u8], row: F) -> Result<BookRow, FieldF
     printable_field(line, 2).map(row)
 }
 
+// The rows of two codes differ in the first field's form and type, and in the row that is made.
 fn value_row(line: &[u8]) -> Result<BookRow, FieldFault>
     ensures { result ≡ value_row line.now }
 {

@@ -76,6 +76,7 @@ pub fn only_byte(part: &[u8]) -> Option<u8>
     }
 }
 
+// The library's equality of slices, of a slice and an array too, where `==` would have to be told the array's slice.
 pub fn is_same(one: &[u8], other: &[u8]) -> bool
     ensures { result ≡ bytes_eq one.now other.now }
 {

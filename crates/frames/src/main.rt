@@ -51,6 +51,7 @@ fn print_frame(
 
 fn print_recording(rt: &HostRuntime, bytes: &[u8]) -> anyhow::Result<()> {
     let mut board = Board::new(rt.alloc());
+    // both counts are told after the last frame, and the first beside each
     let mut frames: u64 = 0;
     let mut reports: u64 = 0;
     for frame in Frames::of(bytes) {

@@ -15,6 +15,7 @@ pub enum ListRow {
     Line([u8; 2]),
 }
 
+// The two rows differ in the field's form and in the row that is made of it: shared, they would take both as arguments.
 fn security_row(line: &[u8]) -> Result<ListRow, FieldFault>
     ensures { result ≡ security_row line.now }
 {
@@ -59,6 +60,7 @@ impl ListRow {
     }
 }
 
+// Symbols and originators differ in type and in what is asked of them, and each question is one chain.
 fn symbol_count(rows: &[ListRow]) -> usize
     ensures { result ≡ length (securities rows.now) }
 {

@@ -24,7 +24,8 @@ pub(crate) mod sweeps;
 
 // A status for each line and for each security, and a consolidated sheet for each security, in the order of the list, in memory of its
 // own. The records are lent: line after line, and in a line security after security. The sheets stand apart from what else is kept of a
-// security, as in the definition of a day, since no line's call may look at them.
+// security, as in the definition of a day, since no line's call may look at them. That there is one of each stands in the type; the
+// bounds on what they hold are asked of a whole day (`Kept`), since between the writes of one call they do not hold.
 #[derive(Drop)]
 pub(crate) struct Floor<'a> {
     market: MarketList,

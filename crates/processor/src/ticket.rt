@@ -4,6 +4,7 @@ ghost use Rattle.std.specs.Prelude.{◌≡◌, true};
 // Only logging in makes one, and only hanging up spends it.
 pub(crate) struct Ticket {
     pub(crate) line: usize,
+    // a flag, since what its drop asks of a ticket must be a fact about its fields
     pub(crate) spent: bool,
 }
 

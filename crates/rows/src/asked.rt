@@ -7,6 +7,7 @@ use verdicts::answer::{Reason, Verdict};
 use verdicts::code::Code;
 use verdicts::row::Row;
 
+// A row says in one word what becomes of the frame, so there are two, and no third function with the verdict's constructor as an argument.
 pub fn reject_unless(holds: bool, code: Code, row: Row) -> Result<(), Verdict>
     ensures { result ≡ judgement (failing (reject_unless holds code row)) tt }
 {

@@ -6,7 +6,7 @@ ghost use Rattle.rows.specs.Judged.{judgement};
 
 use crate::asked::cut_unless;
 use crate::context::Context;
-use verdicts::answer::Verdict;
+use verdicts::answer::{Reason, Verdict};
 use verdicts::code::Code;
 use verdicts::row::Row;
 use wire::header::check_header;
@@ -43,8 +43,11 @@ pub(crate) fn ask_header(
     requires { 21 ≤ size }
     ensures { result ≡ judgement (first_failing (header_rows letters size context.now frame.now)) tt }
 {
-    match check_header(frame, letters, size) {
-        Ok(()) => ask_line(frame, context),
-        Err(row) => cut_unless(false, Code::Header, Row::Header(row)),
-    }
+    check_header(frame, letters, size).map_err(|row| {
+        Verdict::Cut(Reason {
+            code: Code::Header,
+            row: Row::Header(row),
+        })
+    })?;
+    ask_line(frame, context)
 }

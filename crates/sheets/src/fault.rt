@@ -63,6 +63,7 @@ pub struct Fault {
     pub field: u8,
 }
 
+// The three parts of what is told: functions, since as conversions all three would be called `from` at the one place that needs them.
 impl SheetFault {
     fn layer(self) -> Layer
         ensures { result ≡ layer_of self }

@@ -18,7 +18,7 @@ pub fn padded(text: &[u8]) -> Option<Symbol>
     Some(symbol)
 }
 
-// A symbol without its padding.
+// A symbol without its padding. By a loop: tried with `rposition`, of which the library has no lemma, the proof did not close.
 pub fn unpadded(symbol: &[u8]) -> &[u8]
     ensures { result.now ≡ text_of symbol.now }
 {
@@ -32,7 +32,7 @@ pub fn unpadded(symbol: &[u8]) -> &[u8]
     text
 }
 
-// Whether one symbol stands before another, byte by byte.
+// Whether one symbol stands before another, byte by byte: the library's order of slices, under the name that definitions use.
 pub fn precedes(one: &[u8], other: &[u8]) -> bool
     ensures { result ≡ precedes one.now other.now }
 {

@@ -3,7 +3,7 @@ ghost use Rattle.std.specs.Prelude.{◌≡◌, length};
 
 use wire::number::Number;
 
-// A frame that is as long as a trade report.
+// A frame that is as long as a trade report. A mass trading action's has the same constructor, and no other part in common.
 #[derive(Drop)]
 pub(crate) struct TradeFrame<'a> {
     bytes: &'a [u8],

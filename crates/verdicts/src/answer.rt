@@ -44,6 +44,7 @@ impl From<Verdict> for Answer {
     }
 }
 
+// Four parts of one answer: methods, since letter, code and row are numbers all three.
 impl Answer {
     pub fn letter(&self) -> u8
         ensures { result ≡ answer_letter self.now }

@@ -16,7 +16,8 @@ use states::refusal::Refusal;
 use verdicts::answer::{Answer, Verdict};
 
 impl<'a> Floor<'a> {
-    // Does what a frame that no row refuses says.
+    // Does what a frame that no row refuses says. Line, time and buffer stay arguments: of a struct of them each step would use another
+    // part, and the buffer is lent on.
     fn obey(
         &mut self,
         line: usize,

@@ -17,16 +17,12 @@ use wire::mass_action::MassAction;
 
 impl<'a> Floor<'a> {
     // Marks the line's records, and counts those that the action was applied to.
-    fn sweep_line(&mut self, line: usize, action: TradingAction, range: &SymbolRange) -> usize
+    fn sweep_line(&mut self, line: usize, sweep: Sweep) -> usize
         requires { OnLine (day_of self.old) line }
-        ensures count { result ≡ swept_count action range.now (day_of self.old).market.symbols (line_of line (day_of self.old)).records }
-        ensures leaves { day_of self.new ≡ with_records (day_of self.old) line (swept action range.now (day_of self.old).market.symbols (line_of line (day_of self.old)).records) }
+        ensures count { result ≡ swept_count sweep.action sweep.range (day_of self.old).market.symbols (line_of line (day_of self.old)).records }
+        ensures leaves { day_of self.new ≡ with_records (day_of self.old) line (swept sweep.action sweep.range (day_of self.old).market.symbols (line_of line (day_of self.old)).records) }
     {
         let from = line * self.market.security_count();
-        let sweep = Sweep {
-            action,
-            range: *range,
-        };
         match sweep.apply(&self.market, &mut self.records, from) {
             Some(count) => count,
             None => unreachable!(),
@@ -45,19 +41,19 @@ impl<'a> Floor<'a> {
             first: action.first,
             last: action.last,
         };
-        let count = self.sweep_by(line, TradingAction::try_from(action.action).ok(), &range);
+        let count = self.sweep_by(line, TradingAction::try_from(action.action).ok(), range);
         self.set_status(line, status);
         count
     }
 
     // Marks nothing where there is no action.
-    fn sweep_by(&mut self, line: usize, action: Option<TradingAction>, range: &SymbolRange) -> usize
+    fn sweep_by(&mut self, line: usize, action: Option<TradingAction>, range: SymbolRange) -> usize
         requires { OnLine (day_of self.old) line }
-        ensures count { result ≡ counted_by action range.now (day_of self.old).market.symbols (line_of line (day_of self.old)).records }
-        ensures leaves { day_of self.new ≡ with_records (day_of self.old) line (marked_by action range.now (day_of self.old).market.symbols (line_of line (day_of self.old)).records) }
+        ensures count { result ≡ counted_by action range (day_of self.old).market.symbols (line_of line (day_of self.old)).records }
+        ensures leaves { day_of self.new ≡ with_records (day_of self.old) line (marked_by action range (day_of self.old).market.symbols (line_of line (day_of self.old)).records) }
     {
         match action {
-            Some(action) => self.sweep_line(line, action, range),
+            Some(action) => self.sweep_line(line, Sweep { action, range }),
             None => 0,
         }
     }

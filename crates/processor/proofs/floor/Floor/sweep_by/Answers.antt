@@ -11,8 +11,8 @@ returns-in-None c =
     let records = (line_of c.args.line d).records in
     let back = sym (part_back (security_count d.market) c.args.line d.records) in
     record {
-      count = ap (λ a. counted_by a c.args.range.now d.market.symbols records) (sym c.in-None.is);
+      count = ap (λ a. counted_by a c.args.range d.market.symbols records) (sym c.in-None.is);
       leaves =
           (λ i. record { market = d.market; statuses = d.statuses; records = back i; sheets = d.sheets; serial = d.serial })
-          ∙ ap (λ a. with_records d c.args.line (marked_by a c.args.range.now d.market.symbols records)) (sym c.in-None.is);
+          ∙ ap (λ a. with_records d c.args.line (marked_by a c.args.range d.market.symbols records)) (sym c.in-None.is);
     }

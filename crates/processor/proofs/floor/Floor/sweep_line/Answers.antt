@@ -17,7 +17,7 @@ unreachable-requires c =
     let from = c.args.line * length symbols in
     let at = ap (λ n. c.args.line * n) c.security_count.ensures.value in
     let end : from + length symbols ≤ length d.records = omega (arith, ends_before c.args.line (line_count d.market) (security_count d.market) c.requires.line_listed, c.args.self.now.each_record) in
-    let told = sym c.in-None.is ∙ c.apply.ensures.count ∙ ap (λ k. sweep_tells c.args.action c.args.range.now symbols d.records k) at ∙ tells c.args.action c.args.range.now symbols d.records from end in
+    let told = sym c.in-None.is ∙ c.apply.ensures.count ∙ ap (λ k. sweep_tells c.args.sweep.action c.args.sweep.range symbols d.records k) at ∙ tells c.args.sweep.action c.args.sweep.range symbols d.records from end in
     let z : ◌≡◌ {A = ℕ} 0 1 = cc in
     absurd (omega arith)
 
@@ -28,11 +28,11 @@ returns c =
     let from = c.args.line * length symbols in
     let at = ap (λ n. c.args.line * n) c.security_count.ensures.value in
     let end : from + length symbols ≤ length d.records = omega (arith, ends_before c.args.line (line_count d.market) (security_count d.market) c.requires.line_listed, c.args.self.now.each_record) in
-    let told = sym c.in-Some.is ∙ c.apply.ensures.count ∙ ap (λ k. sweep_tells c.args.action c.args.range.now symbols d.records k) at ∙ tells c.args.action c.args.range.now symbols d.records from end in
+    let told = sym c.in-Some.is ∙ c.apply.ensures.count ∙ ap (λ k. sweep_tells c.args.sweep.action c.args.sweep.range symbols d.records k) at ∙ tells c.args.sweep.action c.args.sweep.range symbols d.records from end in
     let after =
-    c.apply.ensures.after ∙ ap (λ k. sweep_leaves c.args.action c.args.range.now symbols d.records k) at ∙ leaves c.args.action c.args.range.now symbols d.records from end
-    ∙ swept-part c.args.action c.args.range.now symbols c.args.line d.records in
+    c.apply.ensures.after ∙ ap (λ k. sweep_leaves c.args.sweep.action c.args.sweep.range symbols d.records k) at ∙ leaves c.args.sweep.action c.args.sweep.range symbols d.records from end
+    ∙ swept-part c.args.sweep.action c.args.sweep.range symbols c.args.line d.records in
     record {
-      count = same _ _ told ∙ front-count c.args.action c.args.range.now symbols (drop from d.records);
+      count = same _ _ told ∙ front-count c.args.sweep.action c.args.sweep.range symbols (drop from d.records);
       leaves = λ i. record { market = d.market; statuses = d.statuses; records = after i; sheets = d.sheets; serial = d.serial };
     }
