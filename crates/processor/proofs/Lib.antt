@@ -1,7 +1,6 @@
 pub mod Arrays
 pub mod Calls
 pub mod Days
-pub mod Fresh
 pub mod Lawfully
 pub mod Notes
 pub mod Soundness

@@ -10,6 +10,11 @@ pub record Kept (d : Day) : Type 0 where
   pub centers : (line place : ℕ) → line < line_count d.market → place < security_count d.market → sound (center_at d place line) ≡ true
   pub sheets : (place : ℕ) → place < security_count d.market → sound (sheet_at d place) ≡ true
 
+-- a line and a security of the list
+pub record AtPlace (d : Day) (line security : ℕ) : Type 0 where
+  pub line_listed : line < line_count d.market
+  pub security_listed : security < security_count d.market
+
 -- a line of the list, on such a day
 pub record OnLine (d : Day) (line : ℕ) : Type 0 where
   pub line_listed : line < line_count d.market

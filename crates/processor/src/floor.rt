@@ -24,8 +24,9 @@ pub(crate) mod sweeps;
 
 // A status for each line and for each security, and a consolidated sheet for each security, in the order of the list, in memory of its
 // own. The records are lent: line after line, and in a line security after security. The sheets stand apart from what else is kept of a
-// security, as in the definition of a day, since no line's call may look at them. That there is one of each stands in the type; the
-// bounds on what they hold are asked of a whole day (`Kept`), since between the writes of one call they do not hold.
+// security, as in the definition of a day, since no line's call may look at them. That there is one of each stands in the type.
+// What the calls ask besides has a name, and is asked: the bounds on a whole day (`Kept`) do not hold between the writes of one call,
+// and that a line or a security is of the list, or has a frame left, is a fact about a call's arguments.
 #[derive(Drop)]
 pub(crate) struct Floor<'a> {
     market: MarketList,

@@ -13,7 +13,7 @@ use stats::sale::{LastSale, LineSale, Sale};
 use verdicts::row::Row;
 use wire::trade_report::TradeReport;
 
-// A volume, which four bytes hold.
+// A volume, with the bound that its four bytes give, which the prover knows only where a field is read.
 fn four_bytes(volume: u32) -> u32
     ensures value { result ≡ volume }
     ensures small { result ≤ highest_volume }
@@ -33,7 +33,7 @@ pub(crate) fn sale_of(report: &TradeReport) -> Sale
     }
 }
 
-// Whether a report that fails a row consumes its trade id.
+// Whether a report that fails a row consumes its trade id: from row 5 on, as the rule has it, by the row's number.
 pub(crate) fn consumes_id(row: Row) -> bool
     ensures { result ≡ consumes_id row }
 {

@@ -73,7 +73,8 @@ impl<'a> Floor<'a> {
         Ok(())
     }
 
-    // A post that is not refused: the security is listed, the action leads, and there is one left.
+    // A post that is not refused: the security is listed, the action leads, and there is one left. Security and state are looked up
+    // again, so that the check says the definition's refusal and no more.
     fn post_open(&mut self, symbol: &[u8], action: PostedAction)
         requires { (Kept (day_of self.old)) × (post_bar (day_of self.old) symbol.now action ≡ None) }
         ensures { day_of self.new ≡ with_market (day_of self.old) (operated (day_of self.old).market (posting symbol.now action)) }
@@ -110,7 +111,7 @@ impl<'a> Floor<'a> {
         Ok(())
     }
 
-    // An inquiry that is not refused.
+    // An inquiry that is not refused. The security is looked up again, as in a post.
     fn inquire_open(&self, line: usize, time: u64, symbol: &Symbol, buffer: &mut [u8])
         requires { (Kept (day_of self.now)) × (inquire_bar (day_of self.now) line symbol.now (length buffer.old) ≡ None) }
         ensures { buffer.new ≡ buffer_after (inquired (day_of self.now).market (line_of line (day_of self.now)) time symbol.now (place_or0 (place_of (day_of self.now).market.symbols symbol.now))) buffer.old }

@@ -47,7 +47,7 @@ fn clear(records: &mut [MarketCenterRecord], count: usize)
     records[..count].fill(MarketCenterRecord::fresh());
 }
 
-// So many of one value. Filled by a loop: `extend` answers whether all fitted, which `push` is known to.
+// So many of one value. Filled by a loop: `extend` gives a `Result`, and that it is never an error would be one more thing to show.
 fn filled<T: Copy + Default, const N: usize>(value: T, count: usize) -> ArrayVec<T, N>
     requires { count ≤ N }
     ensures { result.items ≡ replicate count value }

@@ -5,6 +5,7 @@ ghost use Rattle.states.specs.SecurityStatus.{fresh_security};
 ghost use Rattle.day.specs.LineCalls.{record_at};
 ghost use Rattle.day.specs.Operator.{in_phase, status_at};
 ghost use Rattle.day.specs.State.{line_count, line_of, no_sheet, security_count};
+ghost use Rattle.processor.specs.Kept.{AtPlace};
 ghost use Rattle.processor.specs.Held.{day_of, with_market, with_record, with_security, with_sheet, with_status};
 
 use crate::floor::Floor;
@@ -17,7 +18,7 @@ use stats::sale::LastSale;
 
 impl<'a> Floor<'a> {
     pub(crate) fn status(&self, line: usize) -> LineStatus
-        requires { (line < line_count (day_of self.now).market) }
+        requires { line < line_count (day_of self.now).market }
         ensures { result ≡ (line_of line (day_of self.now)).status }
     {
         self.lines[line]
@@ -32,7 +33,7 @@ impl<'a> Floor<'a> {
 
     // The index of a line's record of a security among all records.
     fn place(&self, line: usize, security: usize) -> usize
-        requires { (line < line_count (day_of self.now).market) × ((security < security_count (day_of self.now).market)) }
+        requires { AtPlace (day_of self.now) line security }
         ensures value { result ≡ line * security_count (day_of self.now).market + security }
         ensures within { result < length self.now.records.now }
     {
@@ -40,14 +41,14 @@ impl<'a> Floor<'a> {
     }
 
     pub(crate) fn record(&self, line: usize, security: usize) -> MarketCenterRecord
-        requires { (line < line_count (day_of self.now).market) × ((security < security_count (day_of self.now).market)) }
+        requires { AtPlace (day_of self.now) line security }
         ensures { result ≡ record_at (line_of line (day_of self.now)).records security }
     {
         self.records[self.place(line, security)]
     }
 
     pub(crate) fn set_record(&mut self, line: usize, security: usize, center: MarketCenterRecord)
-        requires { (line < line_count (day_of self.old).market) × ((security < security_count (day_of self.old).market)) }
+        requires { AtPlace (day_of self.old) line security }
         ensures { day_of self.new ≡ with_record (day_of self.old) line security center }
     {
         let place = self.place(line, security);
@@ -55,12 +56,13 @@ impl<'a> Floor<'a> {
     }
 
     pub(crate) fn sheet(&self, security: usize) -> PlainSheet<LastSale>
-        requires { (security < security_count (day_of self.now).market) }
+        requires { security < security_count (day_of self.now).market }
         ensures { result ≡ slice_index_or (day_of self.now).sheets security no_sheet }
     {
         self.sheets[security]
     }
 
+    // Puts the sheet with a report, and the report's serial, which go together.
     pub(crate) fn set_sheet(&mut self, security: usize, sheet: PlainSheet<LastSale>, serial: u64)
         requires { security < security_count (day_of self.old).market }
         ensures { day_of self.new ≡ with_sheet (day_of self.old) security sheet serial }
@@ -70,7 +72,7 @@ impl<'a> Floor<'a> {
     }
 
     pub(crate) fn security(&self, security: usize) -> SecurityStatus
-        requires { (security < security_count (day_of self.now).market) }
+        requires { security < security_count (day_of self.now).market }
         ensures { result ≡ status_at (day_of self.now).market security }
     {
         self.securities[security]

@@ -14,6 +14,8 @@ const FRAME_LIMIT: u32 = 1_000_000;
 
 const ACTION_LIMIT: u32 = 1_000_000;
 
+// What a send and an inquiry ask of their buffers before anything is written, as the definition of a day has it. The crates that
+// write ask the same of any caller.
 const TAPE_ROOM: usize = 128;
 
 const INQUIRY_ROOM: usize = 33;

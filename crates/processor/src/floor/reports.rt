@@ -27,7 +27,7 @@ impl<'a> Floor<'a> {
         report_taken(self.record(line, security), report)
     }
 
-    // The consolidated sheet of the security with the report.
+    // The consolidated sheet of the security with the report. A line of the list is below 16, so that the cast loses nothing.
     fn sheet_with(&self, line: usize, security: usize, report: &TradeReport) -> PlainSheet<LastSale>
         requires { OnSecurity (day_of self.now) line security }
         ensures { result ≡ noted (slice_index_or (day_of self.now).sheets security no_sheet) (consolidated_entry (record { line = line; sale = sale_of report.now })) }

@@ -46,7 +46,7 @@ impl<'a> Floor<'a> {
         count
     }
 
-    // Marks nothing where there is no action.
+    // Marks nothing where there is no action. The range stands apart, as in the definition: it is there without an action, too.
     fn sweep_by(&mut self, line: usize, action: Option<TradingAction>, range: SymbolRange) -> usize
         requires { OnLine (day_of self.old) line }
         ensures count { result ≡ counted_by action range (day_of self.old).market.symbols (line_of line (day_of self.old)).records }

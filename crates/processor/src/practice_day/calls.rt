@@ -44,7 +44,7 @@ impl<'a> Day<'a> {
         ensures leaves { (sets : Sets) → day_of self.new.floor ≡ (step sets (day_of self.old.floor) (of_line line logging_in)).day }
     {
         self.floor.log_in(line)?;
-        Ok(Ticket { line, spent: false })
+        Ok(Ticket { line })
     }
 
     pub(crate) fn send<B: CodeBook>(
@@ -105,8 +105,7 @@ impl<'a> Day<'a> {
     {
         match self.floor.hang_up(ticket.line) {
             Ok(cut) => {
-                let mut ticket = ticket;
-                ticket.spent = true;
+                let Ticket { line: _ } = ticket;
                 Ok(cut)
             }
             Err(refusal) => Err((refusal, ticket)),

@@ -8,4 +8,4 @@ use Rattle.processor.proofs.floor.Floor.record.Goals as goal
 pub returns : goal.returns
 returns c =
     let d = day_of c.args.self.now in
-    ap (λ k. get_or d.records k no_record) c.place.ensures.value ∙ read-part (security_count d.market) c.args.line d.records c.args.security no_record c.requires.1
+    ap (λ k. get_or d.records k no_record) c.place.ensures.value ∙ read-part (security_count d.market) c.args.line d.records c.args.security no_record c.requires.security_listed

@@ -9,6 +9,6 @@ pub returns : goal.returns
 returns c =
     let d = day_of c.args.self.now in
     let width = security_count d.market in
-    let end = ends_before c.args.line (line_count d.market) width c.requires.0 in
-    let all = ap (λ k. set d.records k c.args.center) c.place-place.ensures.value ∙ set-part width c.args.line c.args.security c.args.center d.records c.requires.1 (omega (arith, end, c.args.self.now.each_record)) in
+    let end = ends_before c.args.line (line_count d.market) width c.requires.line_listed in
+    let all = ap (λ k. set d.records k c.args.center) c.place-place.ensures.value ∙ set-part width c.args.line c.args.security c.args.center d.records c.requires.security_listed (omega (arith, end, c.args.self.now.each_record)) in
     λ i. record { market = d.market; statuses = d.statuses; records = all i; sheets = d.sheets; serial = d.serial }
