@@ -15,6 +15,7 @@ pub fn contents(
 ) -> anyhow::Result<Vec<u8>>
     ensures { MatchResult read (λ bytes. result ≡ Ok bytes) (λ _. IsErr result) }
 {
+    // a `match`, since what an error prints may fail, too
     match read {
         Ok(bytes) => Ok(bytes),
         Err(e) => {

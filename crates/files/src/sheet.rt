@@ -12,7 +12,8 @@ use sheets::reader::read;
 use sheets::row::SheetRow;
 use std::alloc::{AllocError, Global};
 
-// Reads a sheet into slots that are filled with a blank row, and keeps those that it took.
+// Reads a sheet into slots that are filled with a blank row, and keeps those that it took. A result in a result: want of memory goes
+// up by `?`, and the fault of a sheet is one of the two answers that a caller looks for.
 fn rows<Row: SheetRow + Drop>(
     heap: Global,
     text: &[u8],
@@ -32,7 +33,8 @@ fn rows<Row: SheetRow + Drop>(
     }
 }
 
-// A list sheet's rows, or its first fault. A list has at most 256 securities and 16 lines.
+// A list sheet's rows, or its first fault. A list has at most 256 securities and 16 lines. This and `book_rows` are one line each: the
+// sheets differ in their rows, the blank one and the most that there may be.
 pub fn list_rows(heap: Global, text: &[u8]) -> Result<Result<Vec<ListRow>, Fault>, AllocError>
     ensures rows { IfOk result (λ read. IfOk read (λ rows. sheet_of list_rules 272 text.now ≡ record { rows = rows.items; fault = None })) }
     ensures fault { IfOk result (λ read. IfErr read (λ fault. answer_of (sheet_of list_rules 272 text.now) ≡ Err fault)) }

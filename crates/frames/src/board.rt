@@ -95,6 +95,7 @@ impl Board {
             price: report.price,
             volume: report.volume,
         };
+        // from the 256th originator on all share the last number
         let (place, _) = self.originators.insert_full(report.originator)?;
         let line = u8::try_from(place).unwrap_or(u8::MAX);
         enter(&mut self.centers, (line, report.symbol), sale)?;

@@ -79,11 +79,12 @@ fn judge_samples(rt: &HostRuntime) -> anyhow::Result<()> {
     )
 }
 
-// The book is a path, or the word `standard`.
+// Names the program, as `lint` has its own: a shared one would take the name, and be what `contents` is.
 fn read(rt: &HostRuntime, path: &str) -> anyhow::Result<Vec<u8>> {
     contents(rt, "judge", path, fs::read(rt, path))
 }
 
+// The book is a path, or the word `standard`.
 fn judge_files(
     rt: &HostRuntime,
     list: &str,

@@ -1,5 +1,5 @@
 // A fault of a sheet, with the line that it stands in and a mark under the field.
-use cuts::cut::{after_first, part};
+use cuts::cut::part;
 use sheets::cause::Cause;
 use sheets::fault::Fault;
 use show::fault::FaultText;
@@ -20,13 +20,11 @@ fn rule_text(cause: Cause) -> &'static str {
     }
 }
 
-// What a text holds from a part on, counted from 0. A loop: an iterator over parts would lose what stands past them.
+// What a text holds from a part on, counted from 0: the last of so many parts.
 fn rest_from(text: &[u8], separator: u8, index: usize) -> &[u8] {
-    let mut rest = text;
-    for _ in 0..index {
-        rest = after_first(rest, separator);
-    }
-    rest
+    text.splitn(index.saturating_add(1), |byte| *byte == separator)
+        .nth(index)
+        .unwrap_or(b"")
 }
 
 fn print_mark(rt: &HostRuntime, indent: usize, width: usize) -> anyhow::Result<()> {
