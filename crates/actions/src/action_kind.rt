@@ -16,7 +16,7 @@ use verdicts::code::Code;
 use verdicts::row::{MassActionRow, Row};
 use wire::mass_action::MassAction;
 
-// From top to bottom.
+// From top to bottom. Names and a `match` on them, since the answer to a frame names its row.
 const ROWS: &[MassActionRow] = &[
     MassActionRow::FirstPrintable,
     MassActionRow::LastPrintable,
@@ -32,7 +32,7 @@ pub struct Mass;
 fn is_in_day(time: u64, context: &Context) -> bool
     ensures { result ≡ in_day time context.now }
 {
-    context.start <= time && time <= context.sip_time
+    (context.start..=context.sip_time).contains(&time)
 }
 
 impl Kind for Mass {

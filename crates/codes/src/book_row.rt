@@ -55,6 +55,7 @@ fn book_row(line: &[u8]) -> Result<BookRow, FieldFault>
     }
 }
 
+// The library's `contains`, under the word of the definition.
 pub fn is_among(row: &BookRow, rows: &[BookRow]) -> bool
     ensures { result ≡ among_rows rows.now row.now }
 {

@@ -9,7 +9,7 @@ use sheets::fault::Fault;
 use sheets::reader::read;
 
 // Reads a book sheet into a table, a row to a slot: how many rows it has, or its first fault. The rows before a fault stand in their
-// slots, and every other slot is left as it was.
+// slots, and every other slot is left as it was. One line, as a list's reading is: each promises by its own rules.
 pub fn read_book(text: &[u8], table: &mut [BookRow]) -> Result<usize, Fault>
     ensures answer { result ≡ answer_of (sheet_of book_rules (length table.old) text.now) }
     ensures rows { table.new ≡ table_after (sheet_of book_rules (length table.old) text.now) table.old }

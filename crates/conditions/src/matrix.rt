@@ -78,6 +78,7 @@ fn row_lettered(letter: u8) -> Row
 pub fn row_of(byte: u8) -> Row
     ensures { result ≡ row_of byte }
 {
+    // a cast: with `usize::from` the one computed test of all bytes did not close
     row_lettered(ROW_LETTERS[byte as usize])
 }
 

@@ -3,7 +3,6 @@ use Rattle.std.proofs.Common.{◌≡◌, ℕ, suc, ◌+◌, ◌<◌, ◌≤◌, 
 use Rattle.std.specs.List.{onto_first, position_or_len}
 use Rattle.std.proofs.lemmas.List.{drop_all, take_all}
 use Rattle.std.proofs.lemmas.List.Splits.{slice_split_first}
-use Rattle.std.proofs.lemmas.List.Sums.{prefix_len-le-length}
 use Rattle.std.proofs.lemmas.Bool.{cases_Bool}
 use Rattle.std.proofs.lemmas.Bool.Decides.{nat_tests}
 use Rattle.cuts.specs.Cut.{parts, has, first_part, past}
@@ -19,9 +18,6 @@ has_by false h r n e = grind (arith, nat_tests)
 pub has_reach : (sep : ℕ) (xs : List ℕ) → has sep xs ≡ ltb (reach sep xs) (length xs)
 has_reach sep [] = refl
 has_reach sep (x ∷ xs) = has_by (eqb x sep) (has sep xs) (reach sep xs) (length xs) (has_reach sep xs)
-
-reach_le : (sep : ℕ) (xs : List ℕ) → reach sep xs ≤ length xs
-reach_le sep xs = prefix_len-le-length (λ b. not (eqb b sep)) xs
 
 reach_below : (sep : ℕ) (xs : List ℕ) → has sep xs ≡ true → reach sep xs < length xs
 reach_below sep xs e = let h = has_reach sep xs in grind (arith, nat_tests)

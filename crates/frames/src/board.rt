@@ -42,6 +42,7 @@ fn enter<Key: Eq + Hash + Drop, Last: Copy, Report: Enters<Last> + Drop>(
     Ok(())
 }
 
+// A center's sheet and the consolidated one are printed in other words, so each has its line.
 fn print_center(
     rt: &HostRuntime,
     symbol: &Symbol,

@@ -34,7 +34,7 @@ fn print_trade(rt: &HostRuntime, report: &TradeReport) -> anyhow::Result<()> {
     print_field(rt, "volume", report.volume)
 }
 
-// A function: `Says` is of a crate below, and a type of this one round it would print these same words.
+// A function: the crate of `Says` holds no words for people, and a type of this one round it would print these same words.
 fn says_text(says: Says) -> &'static str {
     match says {
         Says::Yes => "Yes",

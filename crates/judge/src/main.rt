@@ -35,6 +35,7 @@ fn print_answers<B: CodeBook>(
     Ok(())
 }
 
+// `lint` tells of a fault at length, and what is made of the rows differs from sheet to sheet; the rest is `list_rows`.
 fn market_of(rt: &HostRuntime, sheet: &[u8]) -> anyhow::Result<MarketList> {
     match list_rows(rt.alloc(), sheet)? {
         Ok(rows) => Ok(MarketList::of_rows(rows.as_slice())),

@@ -5,7 +5,7 @@ use sheets::fault::Fault;
 use show::fault::FaultText;
 use show::quoted::Quoted;
 
-// A function: `Cause` is of a crate below, and a type of this one round it would print these same words.
+// A function: the crate of `Cause` holds no words for people, and a type of this one round it would print these same words.
 fn rule_text(cause: Cause) -> &'static str {
     match cause {
         Cause::Unended => "a line has no byte 10 at its end",

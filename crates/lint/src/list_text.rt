@@ -6,6 +6,7 @@ use lists::market_list::MarketList;
 use show::quoted::Quoted;
 use text::symbol::unpadded;
 
+// The words of this program, with the rows' own fields quoted.
 fn print_row(rt: &HostRuntime, row: &ListRow) -> anyhow::Result<()> {
     match row {
         ListRow::Security(symbol) => {

@@ -60,7 +60,7 @@ impl Sweep {
         if records.get(from..)?.len() < market.security_count() {
             return None;
         }
-        // counted while the records are written, which no chain over them says
+        // By index, and counted while the records are written: tried as a `zip` over the records, nothing was known of them after it.
         let mut count = 0;
         for (security, symbol) in market.symbols().iter().enumerate() {
             if self.mark(symbol, &mut records[from + security]) {

@@ -27,6 +27,7 @@ pub(crate) mod sweeps;
 // security, as in the definition of a day, since no line's call may look at them. That there is one of each stands in the type.
 // What the calls ask besides has a name, and is asked: the bounds on a whole day (`Kept`) do not hold between the writes of one call,
 // and that a line or a security is of the list, or has a frame left, is a fact about a call's arguments.
+// These stay apart, too: of a struct of line and security half of the calls would use the line alone.
 #[derive(Drop)]
 pub(crate) struct Floor<'a> {
     market: MarketList,

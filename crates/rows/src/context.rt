@@ -27,7 +27,7 @@ pub struct Context {
     pub expected_sequence: u64,
     // where the security that the frame names stands in the list, if it does
     pub security: Option<usize>,
-    // what the line's next report of that security must have
+    // what the line's next report of that security must have; where it is not listed a row above asks for that, so no `Option` is due
     pub expected_trade_id: u32,
     pub phase: Phase,
     // when the day started

@@ -5,10 +5,11 @@ ghost use Rattle.scripts.specs.WordForm.{action_word, buffer_word, counted, line
 use crate::malformed::Malformed;
 use crate::number::number_in;
 use crate::word::word_count;
-use sheets::field_layer::all_visible;
+use sheets::field_layer::visible_symbol;
 use states::security_status::PostedAction;
-use text::symbol::{Symbol, padded};
+use text::symbol::Symbol;
 
+// As `sheets` asks for the fields of a line, with another count and another error.
 pub(crate) fn check_count(line: &[u8], number: usize) -> Result<(), Malformed>
     ensures { result ≡ counted number line.now (Ok tt) }
 {
@@ -53,10 +54,7 @@ pub(crate) fn buffer_word(word: &[u8]) -> Result<u16, Malformed>
 pub(crate) fn symbol_word(word: &[u8]) -> Result<Symbol, Malformed>
     ensures { result ≡ symbol_word word.now }
 {
-    if !all_visible(word) {
-        return Err(Malformed::SymbolWord);
-    }
-    padded(word).ok_or(Malformed::SymbolWord)
+    visible_symbol(word).ok_or(Malformed::SymbolWord)
 }
 
 // An action is the type of a crate below, so that this is a function, and no `TryFrom`.

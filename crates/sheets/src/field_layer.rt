@@ -1,6 +1,6 @@
 // The field layer: how many fields a line has, and the form of each.
 ghost use Rattle.std.specs.Prelude.{◌≡◌, Ok};
-ghost use Rattle.sheets.specs.Forms.{all_visible, bucket_field, counted, originator_field, printable_field, symbol_field};
+ghost use Rattle.sheets.specs.Forms.{all_visible, bucket_field, counted, originator_field, printable_field, symbol_by, symbol_field};
 
 use crate::bucket::Bucket;
 use crate::fault::FieldFault;
@@ -36,21 +36,27 @@ pub fn bucket_field(line: &[u8], number: u8) -> Result<Bucket, FieldFault>
 }
 
 // Whether every byte can be seen: printable, and no space.
-pub fn all_visible(text: &[u8]) -> bool
+fn all_visible(text: &[u8]) -> bool
     ensures { result ≡ all_visible text.now }
 {
     text.iter().all(|byte| byte.is_ascii_graphic())
+}
+
+// A text of 1 to 11 visible bytes, as a symbol.
+pub fn visible_symbol(text: &[u8]) -> Option<Symbol>
+    ensures { result ≡ symbol_by text.now }
+{
+    if !all_visible(text) {
+        return None;
+    }
+    padded(text)
 }
 
 // A field of 1 to 11 visible bytes, as a symbol.
 pub fn symbol_field(line: &[u8], number: u8) -> Result<Symbol, FieldFault>
     ensures { result ≡ symbol_field number line.now }
 {
-    let text = field(line, number);
-    if !all_visible(text) {
-        return Err(FieldFault::FieldForm(number));
-    }
-    padded(text).ok_or(FieldFault::FieldForm(number))
+    visible_symbol(field(line, number)).ok_or(FieldFault::FieldForm(number))
 }
 
 // A field of 2 visible bytes.

@@ -33,6 +33,7 @@ fn next_placed<R: SheetRow>(rest: &[u8], seen: &[R], slots: usize) -> Result<R, 
 }
 
 // The number of rows, each in its slot of the table from the first on; or the first fault, with the rows before it in their slots.
+// The table is a caller's: no library of the day asks for memory.
 pub fn read<R: SheetRow>(text: &[u8], table: &mut [R]) -> Result<usize, Fault>
     ensures answer { result ≡ answer_of (sheet_of R.SheetRow.rules (length table.old) text.now) }
     ensures rows { table.new ≡ table_after (sheet_of R.SheetRow.rules (length table.old) text.now) table.old }

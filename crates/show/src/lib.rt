@@ -1,5 +1,5 @@
-// What the programs share in showing something to a person: types of this crate that print what crates below hold, since an
-// `impl Display` has to stand in its type's own crate.
+// What the programs share in showing something to a person. The libraries below hold no words for people, so that what they hold is
+// printed by types of this crate.
 #![tactic(auto)]
 
 pub mod cut;

@@ -6,7 +6,7 @@ use verdicts::answer::Reason;
 
 #[derive(Clone, Copy, PartialEq, Eq, Debug)]
 pub struct LineStatus {
-    // a field of its own, since a line that is cut stays logged in
+    // beside the cut, as the definition of a day keeps both: a line that is cut stays logged in
     pub logged_in: bool,
     // why the line was cut, from then on until it hangs up
     pub cut: Option<Reason>,

@@ -10,7 +10,7 @@ pub struct PlainSheet<Last> {
     pub volume: u64,
 }
 
-// The sheet before any report.
+// The sheet before any report. By hand: a derived one would ask that `Last` has a default.
 impl<Last> Default for PlainSheet<Last> {
     ghost use Rattle.stats.specs.Plain.{empty_sheet};
 

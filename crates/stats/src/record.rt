@@ -3,7 +3,6 @@ ghost use Rattle.std.specs.Prelude.{◌≡◌};
 ghost use Rattle.stats.specs.Records.{fresh_record};
 
 use crate::plain_sheet::PlainSheet;
-use crate::sheet::Sheet;
 
 // Whether a mass trading action lets the line quote the security.
 #[derive(Clone, Copy, PartialEq, Eq, Debug)]
@@ -28,7 +27,7 @@ impl MarketCenterRecord {
         MarketCenterRecord {
             next_trade_id: 1,
             quote_mark: QuoteMark::Welcome,
-            sheet: PlainSheet::from(&Sheet::empty()),
+            sheet: PlainSheet::default(),
         }
     }
 }

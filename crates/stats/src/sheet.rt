@@ -54,12 +54,7 @@ impl<Last: Copy> Sheet<Last> {
         ensures { plain_of result ≡ empty_sheet }
     {
         Sheet {
-            plain: PlainSheet {
-                high: None,
-                low: None,
-                last: None,
-                volume: 0,
-            },
+            plain: PlainSheet::default(),
         }
     }
 
@@ -92,7 +87,7 @@ impl<Last: Copy> Sheet<Last> {
             .checked_add(u64::from(entry.adds))
             .ok_or(VolumeFull)?;
         if let Some(price) = entry.spanned {
-            // High and low are two options and taken apart by a `match`: a rule of the project.
+            // Two options, since a record that is lent may hold any values; that they agree is a fact of the sheet.
             match (sheet.high, sheet.low) {
                 (Some(high), Some(low)) => {
                     sheet.high = Some(high.max(price));

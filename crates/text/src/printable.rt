@@ -5,7 +5,7 @@ ghost use Rattle.text.specs.Printable.{all_printable, printable};
 pub fn is_printable(byte: u8) -> bool
     ensures { result ≡ printable byte }
 {
-    byte >= 32 && byte <= 126
+    (32..=126).contains(&byte)
 }
 
 // Whether every byte of a field is printable.

@@ -10,7 +10,7 @@ pub fn padded(text: &[u8]) -> Option<Symbol>
     ensures { result ≡ symbol_of text.now }
 {
     let n = text.len();
-    if n < 1 || n > 11 {
+    if !(1..=11).contains(&n) {
         return None;
     }
     let mut symbol = [b' '; 11];

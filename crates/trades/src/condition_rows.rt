@@ -16,6 +16,7 @@ pub(crate) fn is_each_in_some_bucket<B: CodeBook>(book: &B, condition: &[u8]) ->
         .all(|value| accepts_in_some_bucket(book, *value))
 }
 
+// By index: the length is known, and a pattern of four would have an arm for what never is.
 pub(crate) fn is_each_in_own_bucket<B: CodeBook>(book: &B, condition: &[u8]) -> bool
     requires { length condition.now ≡ 4 }
     ensures { result ≡ each_in_own_bucket (B.CodeBook.sets book.now) condition.now }

@@ -16,7 +16,7 @@ use verdicts::code::Code;
 use verdicts::row::{Row, TradeRow};
 use wire::trade_report::TradeReport;
 
-// From top to bottom.
+// From top to bottom. Names and a `match` on them, since the answer to a frame names its row.
 const ROWS: &[TradeRow] = &[
     TradeRow::SymbolPrintable,
     TradeRow::SymbolListed,

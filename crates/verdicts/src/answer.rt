@@ -22,6 +22,7 @@ pub enum Verdict {
     Cut(Reason),
 }
 
+// The four letters that a frame is answered. No `Result`: to be passed over is no error of the frame's, and a caller asks for the letter.
 #[derive(Clone, Copy, PartialEq, Eq, Debug)]
 pub enum Answer {
     // with the number of securities that a mass trading action was applied to, and 0 for a trade report
@@ -44,7 +45,7 @@ impl From<Verdict> for Answer {
     }
 }
 
-// Four parts of one answer: methods, since letter, code and row are numbers all three.
+// Four parts of one answer, as it is told: a number each, 0 where there is none. Methods, since a conversion would not say which.
 impl Answer {
     pub fn letter(&self) -> u8
         ensures { result ≡ answer_letter self.now }

@@ -46,7 +46,7 @@ fn fields(frame: &[u8]) -> MassAction
     }
 }
 
-// Reading and the trade report's have two lines each: shared, they would need a trait of two kinds, and be no shorter.
+// `read` is two lines, as the trade report's is: one function for both would need a trait that both implement, and be no shorter.
 impl MassAction {
     pub fn read(frame: &[u8]) -> Result<MassAction, HeaderRow>
         ensures { result ≡ action_in frame.now }

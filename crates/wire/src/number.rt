@@ -79,7 +79,7 @@ impl Number for u64 {
 #[derive(Clone, Copy, PartialEq, Eq, Debug)]
 pub struct WrongWidth;
 
-// The number in a part; none where the part is not as wide as the number.
+// The number in a part; none where the part is not as wide as the number, the one way to be without.
 pub fn read<N: Number>(part: &[u8]) -> Option<N>
     ensures { option_map N.value result ≡ number_in N.WIDTH part.now }
 {

@@ -32,5 +32,7 @@ fn numbers_are_written_whole(rt: HostRuntime) {
     let mut eight = [7; 8];
     assert!(rt; write(&mut two, 258u16).is_ok() && two == [1, 2]);
     assert!(rt; write(&mut four, 16909060u32).is_ok() && four == [1, 2, 3, 4]);
-    assert!(rt; write(&mut eight, 72623859790382856u64).is_ok() && eight == [1, 2, 3, 4, 5, 6, 7, 8]);
+    assert!(rt;
+        write(&mut eight, 72623859790382856u64).is_ok() && eight == [1, 2, 3, 4, 5, 6, 7, 8]
+    );
 }

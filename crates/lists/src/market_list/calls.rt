@@ -45,6 +45,7 @@ impl MarketList {
         &self.originators
     }
 
+    // Securities and lines differ in type, and each call is one of the library's.
     pub fn security_count(&self) -> usize
         ensures value { result ≡ length (securities_of self.now) }
         ensures bound { (1 ≤ result) × (result ≤ 256) }

@@ -45,6 +45,7 @@ impl<'a> Floor<'a> {
         Ok(cut)
     }
 
+    // Opening and closing differ in two phases, and each is the definition of its own call.
     pub(crate) fn open(&mut self) -> Result<(), Refusal>
         ensures said { (sets : Sets) → done_reply result ≡ (step sets (day_of self.old) (of_operator open_day)).said }
         ensures leaves { (sets : Sets) → day_of self.new ≡ (step sets (day_of self.old) (of_operator open_day)).day }

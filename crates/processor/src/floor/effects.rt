@@ -13,7 +13,7 @@ use states::line_status::LineStatus;
 use verdicts::answer::Reason;
 
 impl<'a> Floor<'a> {
-    // The line logs in or hangs up; a cut ends with either.
+    // The line logs in or hangs up, as the definition has it in one; a cut ends with either.
     pub(crate) fn seat(&mut self, line: usize, inside: bool)
         requires { OnLine (day_of self.old) line }
         ensures { day_of self.new ≡ (turned (day_of self.old) line (quiet (ticket line) (seated inside (line_of line (day_of self.old))))).day }

@@ -16,6 +16,7 @@ use stats::plain_sheet::PlainSheet;
 use stats::record::MarketCenterRecord;
 use stats::sale::LastSale;
 
+// Each kind of place has an array of its own, so that each has its two lines.
 impl<'a> Floor<'a> {
     pub(crate) fn status(&self, line: usize) -> LineStatus
         requires { line < line_count (day_of self.now).market }
