@@ -15,7 +15,7 @@ use verdicts::answer::Verdict;
 // A kind brings its two letters, its length, its fields and its rows. The methods are for the walk, which asks the rows of a frame
 // only where the frame reads as the kind. `read` gives the fields themselves and no `Result`, so each kind has the two arms of it.
 // Frame, context and book stay three arguments: a struct of them would be taken apart in every row.
-pub trait Kind: 'static {
+pub trait Kind {
     const LETTERS: [u8; 2];
 
     const LENGTH: usize;
