@@ -6,8 +6,8 @@ use std::fmt;
 use wire::frames::CutShort;
 use wire::recording::Cut;
 
-// What a recording ends inside.
-fn part_cut(cut: Cut) -> &'static str
+// What a recording ends inside; the byte at which that begins is told after it.
+pub fn part_cut(cut: Cut) -> &'static str
     ensures { result.now ≡ cut_words cut }
 {
     match cut {

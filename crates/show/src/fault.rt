@@ -1,20 +1,10 @@
 // What is told of a day sheet's fault.
 ghost use Rattle.std.specs.Prelude.{◌≡◌, Some};
-ghost use Rattle.show.specs.FaultText.{fault_text, layer_name};
+ghost use Rattle.show.specs.FaultText.{fault_text};
 
-use sheets::fault::{Fault, Layer};
+use crate::layer::layer_name;
+use sheets::fault::Fault;
 use std::fmt;
-
-// The layers in which a day sheet is read, by name.
-fn layer_name(layer: Layer) -> &'static str
-    ensures { result.now ≡ layer_name layer }
-{
-    match layer {
-        Layer::Line => "line",
-        Layer::Field => "field",
-        Layer::Sheet => "sheet",
-    }
-}
 
 #[derive(Clone, Copy)]
 pub struct FaultText(pub Fault);

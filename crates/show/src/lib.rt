@@ -4,4 +4,5 @@
 
 pub mod cut;
 pub mod fault;
+pub mod layer;
 pub mod quoted;
