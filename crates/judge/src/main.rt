@@ -14,7 +14,7 @@ use books::sheet_book::SheetBook;
 use books::standard_book::StandardBook;
 use fault_text::print_fault;
 use files::input::{contents, cut_short};
-use files::sheet::{book_rows, list_rows};
+use files::sheet::{BOOK_TABLE, LIST_TABLE, book_rows, list_rows};
 use lists::market_list::MarketList;
 use open_day::OpenDay;
 use start_time::start_time;
@@ -37,8 +37,9 @@ fn print_answers<B: CodeBook>(
 
 // `lint` tells of a fault at length, and what is made of the rows differs from sheet to sheet; the rest is `list_rows`.
 fn market_of(rt: &HostRuntime, sheet: &[u8]) -> anyhow::Result<MarketList> {
-    match list_rows(rt.alloc(), sheet)? {
-        Ok(rows) => Ok(MarketList::of_rows(rows.as_slice())),
+    let mut table = LIST_TABLE;
+    match list_rows(sheet, &mut table) {
+        Ok(rows) => Ok(MarketList::of_rows(rows)),
         Err(fault) => {
             print_fault(rt, "list", fault)?;
             Err(anyhow!("fault"))
@@ -53,12 +54,13 @@ fn judge_by_sheet(
     sheet: &[u8],
     recording: &[u8],
 ) -> anyhow::Result<()> {
-    match book_rows(rt.alloc(), sheet)? {
+    let mut table = BOOK_TABLE;
+    match book_rows(sheet, &mut table) {
         Ok(rows) => {
             let day = OpenDay {
                 market,
                 start,
-                book: &SheetBook::of_rows(rows.as_slice()),
+                book: &SheetBook::of_rows(rows),
             };
             print_answers(rt, &day, recording)
         }

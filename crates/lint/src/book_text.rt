@@ -3,7 +3,7 @@ use crate::fault_text::print_fault;
 use books::code_book::CodeBook;
 use books::sheet_book::SheetBook;
 use codes::book_row::BookRow;
-use files::sheet::book_rows;
+use files::sheet::{BOOK_TABLE, book_rows};
 use sheets::bucket::Bucket;
 use show::quoted::Quoted;
 use std::fmt::Display;
@@ -62,14 +62,15 @@ fn print_row(rt: &HostRuntime, row: &BookRow) -> anyhow::Result<()> {
 
 // Prints a book sheet or its first fault, and says whether it is faultless.
 pub(crate) fn check_book(rt: &HostRuntime, text: &[u8]) -> anyhow::Result<bool> {
-    match book_rows(rt.alloc(), text)? {
+    let mut table = BOOK_TABLE;
+    match book_rows(text, &mut table) {
         Ok(rows) => {
             println!(rt; "book: rows {}", rows.len())?;
-            for row in &rows {
+            for row in rows {
                 print_row(rt, row)?;
             }
             println!(rt; "sets of the book:")?;
-            print_sets(rt, &SheetBook::of_rows(rows.as_slice()))?;
+            print_sets(rt, &SheetBook::of_rows(rows))?;
             Ok(true)
         }
         Err(fault) => {

@@ -1,6 +1,6 @@
 // What a list sheet holds.
 use crate::fault_text::print_fault;
-use files::sheet::list_rows;
+use files::sheet::{LIST_TABLE, list_rows};
 use lists::list_row::ListRow;
 use lists::market_list::MarketList;
 use show::quoted::Quoted;
@@ -23,13 +23,14 @@ fn print_row(rt: &HostRuntime, row: &ListRow) -> anyhow::Result<()> {
 
 // Prints a list sheet or its first fault, and says whether it is faultless.
 pub(crate) fn check_list(rt: &HostRuntime, text: &[u8]) -> anyhow::Result<bool> {
-    match list_rows(rt.alloc(), text)? {
+    let mut table = LIST_TABLE;
+    match list_rows(text, &mut table) {
         Ok(rows) => {
-            let list = MarketList::of_rows(rows.as_slice());
+            let list = MarketList::of_rows(rows);
             let securities = list.security_count();
             let lines = list.line_count();
             println!(rt; "list: securities {securities}, lines {lines}")?;
-            for row in &rows {
+            for row in rows {
                 print_row(rt, row)?;
             }
             Ok(true)

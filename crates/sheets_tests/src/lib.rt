@@ -10,6 +10,6 @@ mod line_layer;
 #[cfg(test)]
 mod market;
 #[cfg(test)]
-mod own_memory;
+mod lent_tables;
 #[cfg(test)]
 mod sheet_layer;
