@@ -3,6 +3,7 @@ ghost use Rattle.std.specs.Prelude.{◌≡◌};
 ghost use Rattle.books.specs.Standard.{reasons as reasons_of, standard_sets, values as values_of};
 
 use crate::code_book::CodeBook;
+use cuts::cut::contains;
 use sheets::bucket::Bucket;
 
 #[derive(Clone, Copy)]
@@ -34,24 +35,24 @@ impl CodeBook for StandardBook {
     ghost sets = { λ _. standard_sets };
 
     fn accepts_flag(&self, flag: u8) -> bool {
-        b"X ".contains(&flag)
+        contains(b"X ", flag)
     }
 
     fn accepts_side(&self, side: u8) -> bool {
-        b"BSXR".contains(&side)
+        contains(b"BSXR", side)
     }
 
     fn accepts_value(&self, bucket: Bucket, value: u8) -> bool {
-        values(bucket).contains(&value)
+        contains(values(bucket), value)
     }
 
     fn go_together(&self, flag: u8, condition: &[u8]) -> bool {
         match condition {
             [settlement, reason, hours, detail] => {
-                values(Bucket::One).contains(settlement)
-                    && reasons(flag).contains(reason)
-                    && values(Bucket::Three).contains(hours)
-                    && values(Bucket::Four).contains(detail)
+                contains(values(Bucket::One), *settlement)
+                    && contains(reasons(flag), *reason)
+                    && contains(values(Bucket::Three), *hours)
+                    && contains(values(Bucket::Four), *detail)
             }
             _ => false,
         }

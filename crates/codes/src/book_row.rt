@@ -55,11 +55,12 @@ fn book_row(line: &[u8]) -> Result<BookRow, FieldFault>
     }
 }
 
-// The library's `contains`, under the word of the definition.
+// Not by the library's `contains`, which took twice the time: the row is copied, so that its kind is looked at once.
 pub fn is_among(row: &BookRow, rows: &[BookRow]) -> bool
     ensures { result ≡ among_rows rows.now row.now }
 {
-    rows.contains(row)
+    let row = *row;
+    rows.iter().any(|other| *other == row)
 }
 
 impl SheetRow for BookRow {

@@ -10,11 +10,10 @@ fn place(text: &[u8], separator: u8) -> Option<usize>
     text.iter().position(|byte| *byte == separator)
 }
 
-// The library's `contains`, under the word of the definition.
 pub fn contains(text: &[u8], separator: u8) -> bool
     ensures { result ≡ has separator text.now }
 {
-    text.contains(&separator)
+    text.iter().any(|byte| *byte == separator)
 }
 
 // The bytes before the first separator; all where there is none.

@@ -73,10 +73,11 @@ fn originator_count(rows: &[ListRow]) -> usize
     rows.iter().filter_map(|row| row.originator()).count()
 }
 
+// Looked for from the last row on, which mostly has it; `nth(0)` is the first, of which the library has a lemma.
 fn last_symbol(rows: &[ListRow]) -> Option<Symbol>
     ensures { result ≡ latest None (securities rows.now) }
 {
-    rows.iter().filter_map(|row| row.symbol()).last()
+    rows.iter().rev().filter_map(|row| row.symbol()).nth(0)
 }
 
 impl SheetRow for ListRow {

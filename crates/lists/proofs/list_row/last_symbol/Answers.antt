@@ -1,11 +1,13 @@
-use Rattle.std.proofs.Common.{rules, tests}
-use Rattle.std.proofs.lemmas.Iterator.{YieldsList-from_slice}
-use Rattle.std.proofs.lemmas.Iterator.Consumers.{YieldsList-from_filter_map}
+use Rattle.std.proofs.Common.{◌∙◌, rules, tests}
+use Rattle.std.proofs.lemmas.Iterator.Adapters.{YieldsList-from_rev_slice}
+use Rattle.std.proofs.lemmas.Iterator.Consumers.{nth_from_yields_List, YieldsList-from_filter_map}
 use Rattle.lists.specs.ListRows.{symbol_in}
-use Rattle.lists.proofs.Searched.{last_from_yields_list}
+use Rattle.lists.proofs.Searched.{last_found, unmapped}
 use Rattle.lists.proofs.list_row.last_symbol.Goals as goal
 
 pub returns : goal.returns
 returns c =
-    last_from_yields_list c.filter_map.result c.last.result c.last.ensures.ran
-    (YieldsList-from_filter_map _ symbol_in (YieldsList-from_slice c.args.rows.now (cc)) c.filter_map.ensures.closure (λ x r q k. search (rules, tests)))
+    unmapped c.nth.result
+    ∙ nth_from_yields_List c.nth.result _ 0 c.nth.ensures.ran
+    (YieldsList-from_filter_map _ symbol_in (YieldsList-from_rev_slice c.args.rows.now (cc)) c.filter_map.ensures.closure (λ x r q k. search (rules, tests)))
+    ∙ last_found c.args.rows.now
