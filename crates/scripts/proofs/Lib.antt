@@ -1,3 +1,3 @@
 pub mod FirstLines
 pub mod Numerals
-pub mod Pairs
+pub mod Pairing
