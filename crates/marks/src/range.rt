@@ -13,6 +13,7 @@ pub struct SymbolRange {
 }
 
 impl SymbolRange {
+    #[tactic(auto, using(crate::proofs::Ranges::contained))]
     pub fn reaches(&self, symbol: &Symbol) -> bool
         ensures { result ≡ in_range self.now symbol.now }
     {

@@ -1,5 +1,5 @@
 -- What a search among ascending symbols finds.
-use Rattle.std.proofs.Common.{◌≡◌, ℕ, zero, suc, ◌<◌, ◌≤◌, true, false, cond, ltb, List, [], ◌∷◌, length, get_or, IfSome, Some, None, Option, Result, Ok, Err, Ordering, Less, Equal, Greater, sym, refl, ap, ◌∙◌, subst, inl, inr, arith}
+use Rattle.std.proofs.Common.{◌≡◌, ℕ, zero, suc, ◌<◌, ◌≤◌, true, false, cond, ltb, List, [], ◌∷◌, length, get_or, IfOk, Some, None, Option, Result, Ok, Err, Ordering, Less, Equal, Greater, sym, refl, ap, ◌∙◌, subst, inl, inr, arith}
 use Rattle.std.specs.Cmp.Lexicographic.{slice_cmp}
 use Rattle.std.specs.List.Sorted.{IsBinarySearchResult, IsNonDecreasingBy, IsSearchInRange}
 use Rattle.std.specs.Option.{option_map}
@@ -103,6 +103,6 @@ found xs symbol (Err i) up within parted = sym (place_none xs symbol (λ k lt.
       | inr e ↦ ap is_eq ((parted (rises xs symbol up)).1 k [] (ltb-false k i e) lt)
     ]))
 
-pub found_within : (r : Result ℕ ℕ) (n : ℕ) → IsSearchInRange r n → IfSome (result_ok r) (λ i. i < n)
-found_within (Ok i) n h = h
-found_within (Err i) n h = tt
+pub within_ok : (r : Result ℕ ℕ) (n : ℕ) → IsSearchInRange r n → IfOk r (λ i. i < n)
+within_ok (Ok i) n h = h
+within_ok (Err i) n h = tt

@@ -8,6 +8,7 @@ use crate::line::{Line, ROOM, push_field, push_number, push_number_field, push_s
 use arrayvec::ArrayVec;
 use wire::trade_report::{TradeReport, WriteRefusal};
 
+#[tactic(auto, using(crate::proofs::Whole::line_pushed))]
 fn line_of(serial: u64, sip_time: u64, report: &TradeReport) -> Line
     ensures items { result.items ≡ tape_line serial sip_time report.now }
     ensures short { array_vec_len result ≤ 115 }

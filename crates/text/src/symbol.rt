@@ -19,6 +19,7 @@ pub fn padded(text: &[u8]) -> Option<Symbol>
 }
 
 // A symbol without its padding. By a loop: tried with `rposition`, of which the library has no lemma, the proof did not close.
+#[tactic(auto, using(crate::proofs::Padding::text_space, crate::proofs::Padding::text_whole))]
 pub fn unpadded(symbol: &[u8]) -> &[u8]
     ensures { result.now ≡ text_of symbol.now }
 {
