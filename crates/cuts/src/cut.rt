@@ -10,10 +10,11 @@ fn place(text: &[u8], separator: u8) -> Option<usize>
     text.iter().position(|byte| *byte == separator)
 }
 
+// The library's `contains`, under the word of the definition.
 pub fn contains(text: &[u8], separator: u8) -> bool
     ensures { result ≡ has separator text.now }
 {
-    text.iter().any(|byte| *byte == separator)
+    text.contains(&separator)
 }
 
 // The bytes before the first separator; all where there is none.

@@ -1,5 +1,5 @@
 // The symbol of a security, as frames carry it.
-ghost use Rattle.std.specs.Prelude.{◌≡◌};
+ghost use Rattle.std.specs.Prelude.{◌≡◌, ◌≤◌, length, take};
 ghost use Rattle.text.specs.Symbol.{precedes, symbol_of, text_of};
 
 // Eleven bytes: 1 to 11 bytes of text, padded on the right with spaces.
@@ -18,19 +18,25 @@ pub fn padded(text: &[u8]) -> Option<Symbol>
     Some(symbol)
 }
 
-// A symbol without its padding. By a loop: tried with `rposition`, of which the library has no lemma, the proof did not close.
-#[tactic(auto, using(crate::proofs::Padding::text_space, crate::proofs::Padding::text_whole))]
+// How many bytes a symbol has without its padding. By a loop: tried with `rposition`, of which the library has no lemma, the proof did
+// not close; and by `split_last`, where no planted bug of the text that is told failed at its fact.
+fn text_length(symbol: &[u8]) -> usize
+    ensures within { result ≤ length symbol.now }
+    ensures front { take result symbol.now ≡ text_of symbol.now }
+{
+    let mut n = symbol.len();
+    while n > 0 && symbol[n - 1] == b' ' {
+        n -= 1;
+    }
+    n
+}
+
+// A symbol without its padding.
 pub fn unpadded(symbol: &[u8]) -> &[u8]
     ensures { result.now ≡ text_of symbol.now }
 {
-    let mut text = symbol;
-    while let Some((last, front)) = text.split_last() {
-        if *last != b' ' {
-            return text;
-        }
-        text = front;
-    }
-    text
+    let n = text_length(symbol);
+    &symbol[0..n]
 }
 
 // Whether one symbol stands before another, byte by byte: the library's order of slices, under the name that definitions use.
