@@ -6,10 +6,10 @@ mod expect;
 #[cfg(test)]
 mod field_layer;
 #[cfg(test)]
+mod lent_tables;
+#[cfg(test)]
 mod line_layer;
 #[cfg(test)]
 mod market;
-#[cfg(test)]
-mod lent_tables;
 #[cfg(test)]
 mod sheet_layer;
