@@ -20,7 +20,7 @@ fn values(bucket: Bucket) -> &'static [u8]
     }
 }
 
-// By `any`, which is inlined: the library's `contains` is a call, and a question took twice the time.
+// By `any`, which is inlined: the library's `contains` is a call, and a question took up to twice the time.
 fn contains(codes: &[u8], code: u8) -> bool
     ensures { result ≡ has code codes.now }
 {

@@ -19,7 +19,7 @@ pub fn padded(text: &[u8]) -> Option<Symbol>
 }
 
 // How many bytes a symbol has without its padding. By a loop: tried with `rposition`, of which the library has no lemma, the proof did
-// not close; and by `split_last`, where no planted bug of the text that is told failed at its fact.
+// not close; and by `split_last`, where the planted bug of `unpadded` failed at a bound, and so did one that means the same.
 fn text_length(symbol: &[u8]) -> usize
     ensures within { result ≤ length symbol.now }
     ensures front { take result symbol.now ≡ text_of symbol.now }
