@@ -11,10 +11,10 @@ use lists::list_row::ListRow;
 use lists::list_sheet::read_list;
 use sheets::fault::Fault;
 
-// A table for a list, which has at most 256 securities and 16 lines. What stands in it is told by no one.
+// A table for a list, which has at most 256 securities and 16 lines, before a sheet is read into it.
 pub const LIST_TABLE: [ListRow; 272] = [ListRow::Line(*b"  "); 272];
 
-// A table for a book, which has at most 256 rows.
+// A table for a book, which has at most 256 rows, before a sheet is read into it.
 pub const BOOK_TABLE: [BookRow; 256] = [BookRow::Flag(b' '); 256];
 
 // A list sheet's rows, or its first fault. This and `book_rows` are two lines each: the sheets differ in their rows, and in how many
